@@ -1,0 +1,77 @@
+-- The four ranges of the exponent's field, each by its law.
+use borrow.Author.Needs.{needs}
+use native.Mathlib.Omega.{arith}
+use lib.Dec.{lit≤}
+use Rattle.numbers.proofs.Narrow.{over-b, normal-b, normal-pattern, unit-ok, low-le, low-b, tiny-b}
+use Rattle.numbers.proofs.narrow_pattern.Statement.{statement}
+use Rattle.numbers.proofs.narrow_pattern.Tie as tie
+
+returns : tie.Need-returns
+returns c = (over-b _ (c .before .pre) (c .if1 .taken), lit≤ tt)
+
+add-rounded-quotient : tie.Need-add-rounded-quotient
+add-rounded-quotient c = search needs
+
+rounded-quotient-requires : tie.Need-rounded-quotient-requires
+rounded-quotient-requires c κs = search needs
+
+mul-result : tie.Need-mul-result
+mul-result c = search needs
+
+add-result : tie.Need-add-result
+add-result c =
+    omega (arith, normal-pattern _ (c .before .before .before .pre) _ (c .rounded-quotient .ensures) (c .before .if2 .taken) (c .before .before .if1 .left))
+
+cast-result : tie.Need-cast-result
+cast-result c =
+    omega (arith, normal-pattern _ (c .before .before .before .pre) _ (c .rounded-quotient .ensures) (c .before .if2 .taken) (c .before .before .if1 .left))
+
+returns-2 : tie.Need-returns-2
+returns-2 c = (
+  normal-b _ (c .before .before .before .pre) _ (c .rounded-quotient .ensures) (c .before .if2 .taken) (c .before .before .if1 .left),
+  normal-pattern _ (c .before .before .before .pre) _ (c .rounded-quotient .ensures) (c .before .if2 .taken) (c .before .before .if1 .left),
+)
+
+add-rounded-quotient-2 : tie.Need-add-rounded-quotient-2
+add-rounded-quotient-2 c = search needs
+
+sub-rounded-quotient : tie.Need-sub-rounded-quotient
+sub-rounded-quotient c = search needs
+
+shl-rounded-quotient : tie.Need-shl-rounded-quotient
+shl-rounded-quotient c = search needs
+
+rounded-quotient-requires-2 : tie.Need-rounded-quotient-requires-2
+rounded-quotient-requires-2 c κs = unit-ok _ (c .before .before .before .pre) (c .if3 .taken)
+
+cast-result-2 : tie.Need-cast-result-2
+cast-result-2 c =
+    omega (arith, low-le _ (c .before .before .before .before .pre) _ (c .rounded-quotient2 .ensures) (c .before .if3 .taken) (c .before .before .if2 .left))
+
+returns-3 : tie.Need-returns-3
+returns-3 c = (
+  low-b _ (c .before .before .before .before .pre) _ (c .rounded-quotient2 .ensures) (c .before .if3 .taken) (c .before .before .if2 .left),
+  omega (arith, low-le _ (c .before .before .before .before .pre) _ (c .rounded-quotient2 .ensures) (c .before .if3 .taken) (c .before .before .if2 .left)),
+)
+
+returns-4 : tie.Need-returns-4
+returns-4 c = (tiny-b _ (c .before .before .before .pre) (c .if3 .left), omega arith)
+
+pub narrow-pattern-spec : {M : Type 1} → statement M
+narrow-pattern-spec =
+    tie.close
+    (tie.spec
+    returns
+    add-rounded-quotient
+    rounded-quotient-requires
+    mul-result
+    add-result
+    cast-result
+    returns-2
+    add-rounded-quotient-2
+    sub-rounded-quotient
+    shl-rounded-quotient
+    rounded-quotient-requires-2
+    cast-result-2
+    returns-3
+    returns-4)

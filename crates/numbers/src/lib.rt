@@ -1,0 +1,257 @@
+// Module 1 of document 01, numbers: what the source takes from Rust's f32 and from dmm.rs, worked
+// out from bits. Every function is total; its contract is one equation with a definition of specs/
+// or of the logic's IEEE 754 (lib.Ieee).
+ghost use mathlib.Core.Path.{_≡_};
+ghost use Prim.Native.Nat.{_≤_, _<_, _^_};
+ghost use lib.IntN.{pos};
+ghost use lib.Ieee.{inf, binary32, binary64, ofInt, toSigned, ofBits};
+ghost use mathlib.Core.Bool.{false};
+ghost use Rattle.numbers.specs.Binary32.{isFinite, absOf, maxOf, clampOf};
+ghost use Rattle.numbers.specs.Convert.{quotient, narrow};
+ghost use Rattle.numbers.specs.Root.{heron, sqrtOf, hypotOf};
+
+// ---- Rust's methods of f32
+
+// No NaN and no infinity.
+pub fn is_finite(x: f32) -> bool
+    ensures { λ r. ⌜ r ≡ isFinite x ⌝ }
+{
+    let infinity = 1.0 / 0.0;
+    if x < infinity { -infinity < x } else { false }
+}
+
+// The size of x with a plus sign. The bits are undefined at a NaN, which is returned first.
+pub fn abs(x: f32) -> f32
+    ensures { λ r. ⌜ r ≡ absOf x ⌝ }
+{
+    if x != x {
+        return x;
+    }
+    f32::from_bits(f32::to_bits(x) & 0x7fff_ffff)
+}
+
+// The larger; of a NaN and a number the number; of two zeros of unlike sign plus zero.
+pub fn max(a: f32, b: f32) -> f32
+    ensures { λ r. ⌜ r ≡ maxOf a b ⌝ }
+{
+    if a != a {
+        return b;
+    }
+    if b != b {
+        return a;
+    }
+    if a < b {
+        return b;
+    }
+    if b < a {
+        return a;
+    }
+    if f32::to_bits(a) >= 0x8000_0000 { b } else { a }
+}
+
+// x held to lo..hi; a NaN stays.
+pub fn clamp(x: f32, lo: f32, hi: f32) -> f32
+    ensures { λ r. ⌜ r ≡ clampOf x lo hi ⌝ }
+{
+    if x < lo {
+        return lo;
+    }
+    if x > hi {
+        return hi;
+    }
+    x
+}
+
+// ---- whole numbers to floats
+
+// n / u to the nearest whole number, a tie to the even one.
+fn rounded_quotient(n: u64, u: u64) -> u64
+    requires { ⌜ (0 < u) × (u ≤ 2 ^ 63) ⌝ }
+    ensures { λ r. ⌜ r ≡ quotient n u ⌝ }
+{
+    let q = n / u;
+    let r = n % u * 2;
+    if r < u {
+        return q;
+    }
+    if r > u {
+        return q + 1;
+    }
+    q + q % 2
+}
+
+// Rust's n as f32. From 2^24 on, k digits are dropped, so that 24 stay: the leading zeros tell k,
+// and the pattern's exponent follows from it.
+pub fn u64_to_f32(n: u64) -> f32
+    ensures { λ r. ⌜ r ≡ ofInt binary32 (pos n) ⌝ }
+{
+    if n < 16777216 {
+        return n as f32;
+    }
+    let k = 40 - u64::leading_zeros(n);
+    let m = rounded_quotient(n, 1u64 << k);
+    f32::from_bits((149 + k) * 8388608 + (m as u32))
+}
+
+// Rust's n as f32. The least n has no i64 of its size, so one is added before the sign turns, and
+// after.
+pub fn i64_to_f32(n: i64) -> f32
+    ensures { λ r. ⌜ r ≡ ofInt binary32 n ⌝ }
+{
+    if n >= 0 {
+        u64_to_f32(n as u64)
+    } else {
+        -u64_to_f32(((0 - (n + 1)) as u64) + 1)
+    }
+}
+
+// Rust's n as f64.
+pub fn i64_to_f64(n: i64) -> f64
+    ensures { λ r. ⌜ r ≡ ofInt binary64 n ⌝ }
+{
+    std::num::nearest_i64_to_f64(n)
+}
+
+// ---- cutting: toward zero, held to the range, 0 for a NaN
+
+// Rust's x as i64.
+pub fn f32_to_i64(x: f32) -> i64
+    ensures { λ r. ⌜ r ≡ toSigned 63 x ⌝ }
+{
+    if x != x {
+        return 0;
+    }
+    if x >= 9223372036854775808.0 {
+        return 9223372036854775807;
+    }
+    if x < -9223372036854775808.0 {
+        return -9223372036854775808;
+    }
+    std::num::truncating_f32_to_i64(x)
+}
+
+// Rust's x as i32.
+pub fn f32_to_i32(x: f32) -> i32
+    ensures { λ r. ⌜ r ≡ toSigned 31 x ⌝ }
+{
+    if x != x {
+        return 0;
+    }
+    if x >= 2147483648.0 {
+        return 2147483647;
+    }
+    if x < -2147483648.0 {
+        return -2147483648;
+    }
+    std::num::truncating_f32_to_i64(x) as i32
+}
+
+// Rust's x as i16.
+pub fn f32_to_i16(x: f32) -> i16
+    ensures { λ r. ⌜ r ≡ toSigned 15 x ⌝ }
+{
+    if x != x {
+        return 0;
+    }
+    if x >= 32768.0 {
+        return 32767;
+    }
+    if x < -32768.0 {
+        return -32768;
+    }
+    std::num::truncating_f32_to_i64(x) as i16
+}
+
+// Rust's x as i8.
+pub fn f32_to_i8(x: f32) -> i8
+    ensures { λ r. ⌜ r ≡ toSigned 7 x ⌝ }
+{
+    if x != x {
+        return 0;
+    }
+    if x >= 128.0 {
+        return 127;
+    }
+    if x < -128.0 {
+        return -128;
+    }
+    std::num::truncating_f32_to_i64(x) as i8
+}
+
+// ---- between the formats
+
+// The binary32 pattern of the f64 whose pattern is b, with the sign clear, rounded: past the
+// largest value the infinity's, then the normal values, the subnormal ones, and zero.
+fn narrow_pattern(b: u64) -> u32
+    requires { ⌜ b ≤ 9218868437227405312 ⌝ }
+    ensures { λ r. ⌜ (ofBits binary32 r ≡ narrow (ofBits binary64 b)) × (r ≤ 2139095040) ⌝ }
+{
+    let e = b / 4503599627370496;
+    let t = b % 4503599627370496;
+    if e >= 1151 {
+        return 2139095040;
+    }
+    if e >= 897 {
+        let q = rounded_quotient(4503599627370496 + t, 536870912);
+        return ((e - 897) * 8388608 + q) as u32;
+    }
+    if e >= 868 {
+        let q = rounded_quotient(4503599627370496 + t, 1u64 << (926 - e));
+        return q as u32;
+    }
+    0
+}
+
+// Rust's x as f32.
+pub fn f64_to_f32(x: f64) -> f32
+    ensures { λ r. ⌜ r ≡ narrow x ⌝ }
+{
+    if x != x {
+        return 0.0 / 0.0;
+    }
+    let b = f64::to_bits(x);
+    if b >= 9223372036854775808 {
+        return -f32::from_bits(narrow_pattern(b - 9223372036854775808));
+    }
+    f32::from_bits(narrow_pattern(b))
+}
+
+// Rust's x as f64, which holds every f32.
+pub fn f32_to_f64(x: f32) -> f64
+    ensures { λ r. ⌜ r ≡ x ⌝ }
+{
+    std::num::f32_to_f64_with_nan(x)
+}
+
+// ---- the root of dmm.rs
+
+// One step of Heron's iteration toward the root of x.
+fn heron_step(x: f32, y: f32) -> f32
+    ensures { λ r. ⌜ r ≡ heron x y ⌝ }
+{
+    0.5 * (y + x / y)
+}
+
+// Not IEEE 754's square root: four steps from a seed. Of infinity it is a NaN.
+pub fn sqrt(x: f32) -> f32
+    ensures { λ r. ⌜ r ≡ sqrtOf x ⌝ }
+{
+    if x <= 0.0 {
+        return 0.0;
+    }
+    if x != x {
+        return x;
+    }
+    let y0 = f32::from_bits((f32::to_bits(x) >> 1) + 0x1fc0_0000);
+    let y1 = heron_step(x, y0);
+    let y2 = heron_step(x, y1);
+    let y3 = heron_step(x, y2);
+    heron_step(x, y3)
+}
+
+// The root of a * a + b * b.
+pub fn hypot(a: f32, b: f32) -> f32
+    ensures { λ r. ⌜ r ≡ hypotOf a b ⌝ }
+{
+    sqrt(a * a + b * b)
+}

@@ -1,0 +1,153 @@
+// Runs rows of document 01 and other figures from outside through the functions, and compares. It
+// writes the number of each row that differs, and at the end how many agreed and how many differed.
+use codes::Decoded;
+
+struct Score {
+    agree: u64,
+    differ: u64,
+}
+
+// The score with row k counted; where it differs, its number is written.
+fn row(s: Score, k: u64, same: bool) -> Score {
+    if same {
+        return Score {
+            agree: std::num::wrapping_add_u64(s.agree, 1),
+            differ: s.differ,
+        };
+    }
+    io::write_all(1, b"differs: row ");
+    io::print_decimal(1, k);
+    io::write_all(1, b"\n");
+    Score {
+        agree: s.agree,
+        differ: std::num::wrapping_add_u64(s.differ, 1),
+    }
+}
+
+// Whether x has this bit pattern; a NaN has none.
+fn has_bits(x: f32, bits: u32) -> bool {
+    if x != x {
+        return false;
+    }
+    f32::to_bits(x) == bits
+}
+
+// Whether a frame decodes to these three codes.
+fn decodes(frame: &[u8], ad1: i32, lpf: i32, rms: i64) -> bool {
+    let answer = codes::decode(frame);
+    match answer {
+        Decoded::Taken(c) => {
+            if c.ad1 != ad1 {
+                return false;
+            }
+            if c.lpf != lpf {
+                return false;
+            }
+            c.rms == rms
+        }
+        Decoded::Refused(_) => false,
+    }
+}
+
+// The number that decoding a frame of this length is refused with, 0 where it is taken.
+fn refused(frame: &[u8]) -> u8 {
+    let answer = codes::decode(frame);
+    match answer {
+        Decoded::Taken(_) => 0,
+        Decoded::Refused(refusal) => refusals::number(refusal),
+    }
+}
+
+// Rows 1 to 6: document 01, "Frames and figures on each side": LPF, AD1 and RMS.
+fn code_rows(s: Score) -> Score {
+    let mut s = s;
+    s = row(
+        s,
+        1,
+        decodes(
+            b"\x01\0\0\xff\xff\xff\xff\xff\x03\x02\0\0\0\0",
+            1,
+            262143,
+            2,
+        ),
+    );
+    s = row(
+        s,
+        2,
+        decodes(b"\x01\0\0\xff\xff\xff\0\0\x04\x02\0\0\0\0", 1, -262144, 2),
+    );
+    s = row(
+        s,
+        3,
+        decodes(b"\x01\0\0\xff\xff\xff\0\0\xf8\x02\0\0\0\0", 1, 0, 2),
+    );
+    s = row(
+        s,
+        4,
+        decodes(b"\0\0\x80\xff\xff\xff\x03\0\0\x02\0\0\0\0", -8388608, 3, 2),
+    );
+    s = row(
+        s,
+        5,
+        decodes(
+            b"\x01\0\0\xff\xff\xff\x03\0\0\xff\xff\xff\xff\x1f",
+            1,
+            3,
+            137438953471,
+        ),
+    );
+    row(
+        s,
+        6,
+        decodes(
+            b"\x01\0\0\xff\xff\xff\x03\0\0\0\0\0\0\x20",
+            1,
+            3,
+            -137438953472,
+        ),
+    )
+}
+
+// Rows 11 to 14: document 01, "frame not 14 bytes" is refusal 4.
+fn length_rows(s: Score) -> Score {
+    let mut s = s;
+    s = row(s, 11, refused(b"") == 4);
+    s = row(s, 12, refused(b"\0\0\0\0\0\0\0\0\0\0\0\0\0") == 4);
+    s = row(s, 13, refused(b"\0\0\0\0\0\0\0\0\0\0\0\0\0\0") == 0);
+    row(s, 14, refused(b"\0\0\0\0\0\0\0\0\0\0\0\0\0\0\0") == 4)
+}
+
+// Rows 21 to 28: the root of dmm.rs. Of 3 it is not IEEE 754's 3FDDB3D7; of infinity it is a NaN.
+fn root_rows(s: Score) -> Score {
+    let of_infinity = numbers::sqrt(1.0 / 0.0);
+    let mut s = s;
+    s = row(s, 21, has_bits(numbers::sqrt(3.0), 0x3fdd_b3d8));
+    s = row(s, 22, has_bits(numbers::sqrt(6.0), 0x401c_c470));
+    s = row(s, 23, has_bits(numbers::sqrt(18.0), 0x4087_c3b6));
+    s = row(s, 24, has_bits(numbers::sqrt(160000.0), 0x43c8_0000));
+    s = row(s, 25, has_bits(numbers::sqrt(68719476736.0), 0x4880_0000));
+    s = row(s, 26, has_bits(numbers::sqrt(-1.0), 0));
+    s = row(s, 27, has_bits(numbers::sqrt(-0.0), 0));
+    row(s, 28, of_infinity != of_infinity)
+}
+
+// Rows 31 to 34: document 01, `max` of a NaN and a number, and of two zeros of unlike sign.
+fn max_rows(s: Score) -> Score {
+    let nan = 0.0 / 0.0;
+    let mut s = s;
+    s = row(s, 31, has_bits(numbers::max(nan, -2.0), 0xc000_0000));
+    s = row(s, 32, has_bits(numbers::max(-2.0, nan), 0xc000_0000));
+    s = row(s, 33, has_bits(numbers::max(0.0, -0.0), 0));
+    row(s, 34, has_bits(numbers::max(-0.0, 0.0), 0))
+}
+
+fn main() {
+    let s = max_rows(root_rows(length_rows(code_rows(Score {
+        agree: 0,
+        differ: 0,
+    }))));
+    io::print_decimal(1, s.agree);
+    io::write_all(1, b" rows agree, ");
+    io::print_decimal(1, s.differ);
+    io::write_all(1, b" differ\n");
+}
