@@ -9,9 +9,9 @@ use lib.Pow.{pow-add, pow-mono}
 use Rattle.codes.specs.Frame.{littleEndian}
 
 -- nothing gathered yet
-pub none-left : (at n : ℕ) (frame : List ℕ) → 0 ≡ littleEndian (n - n) (at + n) frame
+pub none-left : (at n : ℕ) (frame : List ℕ) → 0 ≡ littleEndian (at + n) (n - n) frame
 unfolding littleEndian
-none-left at n frame = ap (λ (k : ℕ). littleEndian k (at + n) frame) (nil n)
+none-left at n frame = ap (λ (k : ℕ). littleEndian (at + n) k frame) (nil n)
   where
     nil : (k : ℕ) → 0 ≡ k - k
     nil k = omega arith
@@ -20,13 +20,13 @@ one-more : (n left : ℕ) → 0 < left → left ≤ n → n - (left - 1) ≡ suc
 one-more n left l h = omega arith
 
 -- the byte in front of the n - left that are gathered
-pub more : (at n left : ℕ) (frame : List ℕ) (raw : ℕ) → 0 < left → left ≤ n → raw ≡ littleEndian (n - left) (at + left) frame
-    → raw * 256 + getD frame (at + (left - 1)) 0 ≡ littleEndian (n - (left - 1)) (at + (left - 1)) frame
+pub more : (at n left : ℕ) (frame : List ℕ) (raw : ℕ) → 0 < left → left ≤ n → raw ≡ littleEndian (at + left) (n - left) frame
+    → raw * 256 + getD frame (at + (left - 1)) 0 ≡ littleEndian (at + (left - 1)) (n - (left - 1)) frame
 unfolding littleEndian
 more at n left frame raw l h e =
     turn raw (getD frame (at + (left - 1)) 0)
-    ∙ ap (λ (r : ℕ). getD frame (at + (left - 1)) 0 + 256 * r) (e ∙ ap (λ (k : ℕ). littleEndian (n - left) k frame) (next at left l))
-    ∙ ap (λ (k : ℕ). littleEndian k (at + (left - 1)) frame) (sym (one-more n left l h))
+    ∙ ap (λ (r : ℕ). getD frame (at + (left - 1)) 0 + 256 * r) (e ∙ ap (λ (k : ℕ). littleEndian k (n - left) frame) (next at left l))
+    ∙ ap (λ (k : ℕ). littleEndian (at + (left - 1)) k frame) (sym (one-more n left l h))
   where
     turn : (r b : ℕ) → r * 256 + b ≡ b + 256 * r
     turn r b = omega arith
@@ -54,8 +54,8 @@ at-most n left raw l h k = lt-of-lt-of-le k (pow-mono (four n left l h))
     four m j p q = omega arith
 
 -- the last byte gathered is the first of the run
-pub all-read : (at n left : ℕ) (frame : List ℕ) (raw : ℕ) → left ≤ 0 → raw ≡ littleEndian (n - left) (at + left) frame → raw ≡ littleEndian n at frame
-all-read at n left frame raw h e = e ∙ ap (λ (k : ℕ). littleEndian k (at + left) frame) (whole n left h) ∙ ap (λ (k : ℕ). littleEndian n k frame) (start at left h)
+pub all-read : (at n left : ℕ) (frame : List ℕ) (raw : ℕ) → left ≤ 0 → raw ≡ littleEndian (at + left) (n - left) frame → raw ≡ littleEndian at n frame
+all-read at n left frame raw h e = e ∙ ap (λ (k : ℕ). littleEndian (at + left) k frame) (whole n left h) ∙ ap (λ (k : ℕ). littleEndian k n frame) (start at left h)
   where
     whole : (m j : ℕ) → j ≤ 0 → m - j ≡ m
     whole m j p = omega arith

@@ -11,10 +11,10 @@ use Rattle.refusals.specs.Number.{refusalNumber}
 use Rattle.codes.specs.declared.Decoded.{Decoded}
 use Rattle.codes.specs.declared.Decoded.the-variants.{Taken, Refused}
 
--- n bytes from byte `at` on, the first the least
+-- the number in n bytes from byte `at` on, the first the least
 unfoldable pub littleEndian : ℕ → ℕ → List ℕ → ℕ
-littleEndian zero at bytes = 0
-littleEndian (suc n) at bytes = getD bytes at 0 + 256 * littleEndian n (suc at) bytes
+littleEndian at zero bytes = 0
+littleEndian at (suc n) bytes = getD bytes at 0 + 256 * littleEndian (suc at) n bytes
 
 -- the low w bits of n: below 2 ^ (w - 1) as they stand, else less 2 ^ w
 unfoldable pub twosComplement : ℕ → ℕ → ℤ
@@ -22,21 +22,21 @@ twosComplement w n = cond (ltb (n % 2 ^ w) (2 ^ (w - 1))) (pos (n % 2 ^ w)) (sub
 
 -- AD1: 24 bits of bytes 0..2
 abbrev pub ad1Of : List ℕ → ℤ
-ad1Of bytes = twosComplement 24 (littleEndian 3 0 bytes)
+ad1Of bytes = twosComplement 24 (littleEndian 0 3 bytes)
 
 -- LPF: 19 bits of bytes 6..8
 abbrev pub lpfOf : List ℕ → ℤ
-lpfOf bytes = twosComplement 19 (littleEndian 3 6 bytes)
+lpfOf bytes = twosComplement 19 (littleEndian 6 3 bytes)
 
 -- RMS: 38 bits of bytes 9..13
 abbrev pub rmsOf : List ℕ → ℤ
-rmsOf bytes = twosComplement 38 (littleEndian 5 9 bytes)
+rmsOf bytes = twosComplement 38 (littleEndian 9 5 bytes)
 
--- the three codes, or refusal 4, "frame not 14 bytes"
+-- the three codes of a frame; refused for every length but 14
 unfoldable pub decoded : List ℕ → Decoded
-decoded bytes = cond (eqb (length bytes) 14) (Taken (record { ad1 = ad1Of bytes; lpf = lpfOf bytes; rms = rmsOf bytes })) (Refused Frame)
+decoded bytes = cond (eqb (length bytes) 14) (Taken (record { ad1 = ad1Of bytes; lpf = lpfOf bytes; rms = rmsOf bytes })) Refused
 
--- document 01's number of the answer
+-- document 01's number of each answer: done, and refusal 4, "frame not 14 bytes"
 abbrev pub decodedNumber : Decoded → ℕ
 decodedNumber (Taken codes) = refusalNumber Done
-decodedNumber (Refused refusal) = refusalNumber refusal
+decodedNumber Refused = refusalNumber Frame

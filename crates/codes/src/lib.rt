@@ -4,30 +4,28 @@ ghost use Prim.Native.Nat.{_+_, _≤_, _<_};
 ghost use lib.ListN.{length};
 ghost use Rattle.codes.specs.Frame.{littleEndian, twosComplement, decoded};
 ghost use Rattle.codes.specs.Flags.{holdsAd1, holdsRmsLpf};
-use refusals::Refusal;
 
 // How many bytes of the register block a frame has.
-pub const FRAME_LEN: usize = 14;
+const FRAME_LEN: usize = 14;
 
 // The flags of `R_INTF`.
-pub const INTF_AD1: u8 = 4;
+const INTF_AD1: u8 = 4;
 
-pub const INTF_LPF: u8 = 8;
+const INTF_LPF: u8 = 8;
 
-pub const INTF_RMS: u8 = 16;
+const INTF_RMS: u8 = 16;
 
 // The converter codes of one frame.
-#[repr(C)]
 pub struct Codes {
     pub ad1: i32,
     pub lpf: i32,
     pub rms: i64,
 }
 
-// What decoding answers.
+// What decoding answers: the codes, or refusal 4.
 pub enum Decoded {
     Taken(Codes),
-    Refused(Refusal),
+    Refused,
 }
 
 // The low w bits of raw, as two's complement.
@@ -47,7 +45,7 @@ fn twos_complement(raw: u64, w: u32) -> i64
 // The number in n bytes of the frame from byte `at` on, the first the least.
 fn little_endian(frame: &[u8], at: usize, n: usize) -> u64
     requires { ⌜ (n ≤ 5) × (at + n ≤ length (now frame)) ⌝ }
-    ensures { λ r. ⌜ r ≡ littleEndian n at (now (frame .entry)) ⌝ }
+    ensures { λ r. ⌜ r ≡ littleEndian at n (now (frame .entry)) ⌝ }
 {
     let mut raw: u64 = 0;
     let mut left = n;
@@ -64,7 +62,7 @@ pub fn decode(frame: &[u8]) -> Decoded
     ensures { λ r. ⌜ r ≡ decoded (now (frame .entry)) ⌝ }
 {
     if frame.len() != FRAME_LEN {
-        return Decoded::Refused(Refusal::Frame);
+        return Decoded::Refused;
     }
     let ad1 = twos_complement(little_endian(frame, 0, 3), 24) as i32;
     let lpf = twos_complement(little_endian(frame, 6, 3), 19) as i32;

@@ -2,6 +2,8 @@ pub mod Pattern
 pub mod Order
 pub mod Root
 pub mod Round
+pub mod Quotient
+pub mod Whole
 pub mod Narrow
 pub mod NarrowSign
 pub mod Cut

@@ -14,8 +14,9 @@ use lib.Ieee.Fits.{round-is, core, down-pos, nearest-le}
 use lib.Ieee.Exact.{HasValue, odd-sign}
 use lib.Ieee.Nearest.{closest, closest-same}
 use lib.Ieee.Scale.{round-same}
-use Rattle.numbers.specs.Convert.{quotient, narrow}
-use Rattle.numbers.proofs.Round.{at-field, no-field, size-is, kept-lo, kept-hi, quotient-is, units-over, units-bits-all, units-bits-low, below}
+use Rattle.numbers.specs.Convert.{roundedQuotient, narrow}
+use Rattle.numbers.proofs.Round.{at-field, no-field, size-is, kept-lo, kept-hi, units-over, units-bits-all, units-bits-low}
+use Rattle.numbers.proofs.Quotient.{quotient-is, below}
 
 -- ---- the fields of an f64's pattern with the sign clear
 abbrev H : ℕ
@@ -263,7 +264,7 @@ module _ (b : ℕ) (h : b ≤ Top) where
       split : (y : ℕ) → y ≤ 2047 → (y ≡ 2047) ⊎ (y < 2047)
       split y p = eq-or-lt-of-le p
 
-  module _ (q : ℕ) (n : q ≡ quotient (H + t) 536870912) where
+  module _ (q : ℕ) (n : q ≡ roundedQuotient (H + t) 536870912) where
     is : q ≡ closest (H + t) (2 ^ 29)
     is = n ∙ quotient-is (H + t) 536870912
 
@@ -301,9 +302,9 @@ module _ (b : ℕ) (h : b ≤ Top) where
       k63 : (y : ℕ) → 868 ≤ y → 926 - y ≤ 63
       k63 y p = omega arith
 
-  module _ (q : ℕ) (n : q ≡ quotient (H + t) (1 * 2 ^ (926 - e) % 18446744073709551616)) (l : 868 ≤ e) (u : e < 897) where
+  module _ (q : ℕ) (n : q ≡ roundedQuotient (H + t) (1 * 2 ^ (926 - e) % 18446744073709551616)) (l : 868 ≤ e) (u : e < 897) where
     is-low : q ≡ closest (H + t) (2 ^ (926 - e))
-    is-low = n ∙ ap (quotient (H + t)) (unit-is l) ∙ quotient-is (H + t) (2 ^ (926 - e))
+    is-low = n ∙ ap (roundedQuotient (H + t)) (unit-is l) ∙ quotient-is (H + t) (2 ^ (926 - e))
 
     pub low-le : q ≤ 8388608
     low-le = subst (λ (y : ℕ). y ≤ 8388608) (sym is-low) (small-kept (H + t) (926 - e) (lead-hi t T5) (thirty e u))

@@ -1,22 +1,19 @@
 -- `round` at binary32 by bit patterns: the pattern k * 2 ^ 23 + q is the value of q * 2 ^ k smallest values. Assumes nothing.
 use mathlib.Core.Path.{_≡_, refl, sym, ap, _∙_, subst}
 use mathlib.Core.Logic.{inl, inr}
-use mathlib.Core.Bool.{Bool, true, false, not, cond, true≢false, false≢true}
-use Prim.Native.Nat.{ℕ, zero, suc, _+_, _-_, _*_, _/_, _%_, _^_, _≤_, _<_, compare, Ordering, Ordering·lt, Ordering·eq, Ordering·gt}
-use native.Mathlib.Nat.{le-trans, le-of-eq, le-refl, lt-of-lt-of-le, lt-of-le-of-lt, one-mul, mul-assoc, mul-comm, mul-pos, div-one, mod-lt, mul-le-mul-right, le-div-iff-mul-le, div-lt-iff-lt-mul, lt-of-not-le, not-le-of-lt, pow-suc, zero-lt-suc, le-antisymm, eq-or-lt-of-le, le-of-lt, ne-of-lt, le-of-suc-le-suc, zero-add, mul-le-mul-left, div-mul-le-self}
-use native.Mathlib.Numerals.{add-one}
+use mathlib.Core.Bool.{Bool, false, cond}
+use Prim.Native.Nat.{ℕ, zero, suc, _+_, _-_, _*_, _/_, _%_, _^_, _≤_, _<_, compare}
+use native.Mathlib.Nat.{le-trans, le-of-eq, le-refl, lt-of-lt-of-le, one-mul, mul-assoc, mul-comm, mul-pos, div-one, mul-le-mul-right, le-div-iff-mul-le, div-lt-iff-lt-mul, lt-of-not-le, not-le-of-lt, pow-suc, zero-lt-suc, le-antisymm, eq-or-lt-of-le, le-of-lt, ne-of-lt, le-of-suc-le-suc, zero-add}
 use native.Mathlib.Omega.{arith}
-use borrow.Author.Tests.{lt-ltb, lt-leb, ne-eqb, le-leb, eq-eqb, le-ltb}
-use lib.Dec.{T, leb, eqb, isLe, isEq, lit≤, lit<, le→leb}
-use lib.Pow.{pow-add, pow-pos, pow-mono, shl-lt, shl-exact}
-use lib.Count.{trailingZeros, under, leadingZeros, leading-top}
-use lib.Ieee.{nan, inf, fin, Format, binary32, prec, ones, hid, low, size, nearest, odd, units, round, ofFields, ofBits, minus, ofInt, inFloat, nanBits}
+use borrow.Author.Tests.{lt-ltb, lt-leb, ne-eqb, le-ltb}
+use lib.Dec.{leb, eqb, lit≤, lit<}
+use lib.Pow.{pow-add, pow-pos, pow-mono, shl-lt}
+use lib.Count.{trailingZeros, under}
+use lib.Ieee.{nan, inf, fin, Format, binary32, prec, ones, hid, low, size, odd, units, round, ofFields, ofBits, minus, ofInt}
 use lib.Ieee.Digits.{size-lt, size-le}
 use lib.Ieee.Fits.{round-is, core, nearest-le}
 use lib.Ieee.Nearest.{closest, closest-same, nearest-ge}
 use lib.IntN.{pos}
-use Rattle.numbers.specs.Convert.{quotient}
-use Rattle.numbers.proofs.Pattern.{below-nan}
 
 -- ---- one more digit to look at changes nothing
 half-pos : (q : ℕ) → 0 < q → q % 2 ≡ 0 → 0 < q / 2
@@ -224,121 +221,3 @@ module _ (n j : ℕ) (lo : 2 ^ (23 + j) ≤ n) (hi : n < 2 ^ (24 + j)) where
 
       most : (y : ℕ) → y ≤ 103 → y + 149 ≤ 252
       most y p = omega arith
-
--- ---- what `rounded_quotient` answers, by cases
-ord-lt : (o : Ordering) → isLe o ≡ true → isEq o ≡ false → o ≡ Ordering·lt
-ord-lt Ordering·lt a b = refl
-ord-lt Ordering·eq a b = absurd (true≢false b)
-ord-lt Ordering·gt a b = absurd (false≢true a)
-
-ord-eq : (o : Ordering) → isEq o ≡ true → o ≡ Ordering·eq
-ord-eq Ordering·lt a = absurd (false≢true a)
-ord-eq Ordering·eq a = refl
-ord-eq Ordering·gt a = absurd (false≢true a)
-
-ord-gt : (o : Ordering) → isLe o ≡ false → o ≡ Ordering·gt
-ord-gt Ordering·lt a = absurd (true≢false a)
-ord-gt Ordering·eq a = absurd (true≢false a)
-ord-gt Ordering·gt a = refl
-
-module _ (a b : ℕ) where
-  pub below : a % b * 2 < b → a / b ≡ quotient a b
-  unfolding quotient
-  below h = ap (nearest (a / b)) (sym (ord-lt (compare (a % b * 2) b) (le-leb (a % b * 2) b (le-of-lt h)) (ne-eqb (a % b * 2) b (λ e. ne-of-lt h e))))
-
-  pub even : a % b * 2 ≡ b → a / b + a / b % 2 ≡ quotient a b
-  unfolding quotient
-  even e = ap (nearest (a / b)) (sym (ord-eq (compare (a % b * 2) b) (eq-eqb (a % b * 2) b e)))
-
-  pub above : b < a % b * 2 → a / b + 1 ≡ quotient a b
-  unfolding quotient
-  above h = add-one (a / b) ∙ ap (nearest (a / b)) (sym (ord-gt (compare (a % b * 2) b) (lt-leb (a % b * 2) b h)))
-
--- ---- what the code of `rounded_quotient` asks
-pub twice-fits : (n u : ℕ) → 0 < u → u ≤ 9223372036854775808 → n % u * 2 < 18446744073709551616
-twice-fits n u h k = let m : n % u < u = mod-lt n h in omega arith
-
-halved : (n u : ℕ) → 2 ≤ u → n < 18446744073709551616 → n / u ≤ 9223372036854775807
-halved n u h k =
-    let a : n / u * 2 ≤ n = le-trans (mul-le-mul-left (n / u) h) (div-mul-le-self n u) in
-    omega arith
-
-two-at-least : (r u : ℕ) → 0 < u → r < u → u ≤ r * 2 → 2 ≤ u
-two-at-least r u a b c = omega arith
-
-pub next-fits : (n u : ℕ) → 0 < u → u ≤ n % u * 2 → n < 18446744073709551616 → n / u + 1 < 18446744073709551616
-next-fits n u h k l =
-    let a : n / u ≤ 9223372036854775807 = halved n u (two-at-least (n % u) u h (mod-lt n h) k) l in
-    omega arith
-
--- ---- the exponent by leading zeros
-pub record Lead (n : ℕ) : Type 0 where
-  pub few : leadingZeros 64 n ≤ 40
-  pub lo : 2 ^ (23 + (40 - leadingZeros 64 n)) ≤ n
-  pub hi : n < 2 ^ (24 + (40 - leadingZeros 64 n))
-
-pow-lt-back : (i p : ℕ) → 2 ^ i < 2 ^ p → i < p
-pow-lt-back i p h = lt-of-not-le (λ (g : p ≤ i). not-le-of-lt h (pow-mono g))
-
-pub lead : (n : ℕ) → 16777216 ≤ n → n < 2 ^ 64 → Lead n
-lead n a b =
-    let t = leading-top 64 n (lt-of-lt-of-le (lit< tt) a) b in
-    let j = t .0 in
-    let z = leadingZeros 64 n in
-    let J : 24 < suc j = pow-lt-back 24 (suc j) (lt-of-le-of-lt a (t .3)) in
-    record { few = few' z j (t .1) J; lo = subst (λ (x : ℕ). 2 ^ x ≤ n) (lo' z j (t .1) J) (t .2); hi = subst (λ (x : ℕ). n < 2 ^ x) (hi' z j (t .1) J) (t .3) }
-  where
-    few' : (z j : ℕ) → z + suc j ≡ 64 → 24 < suc j → z ≤ 40
-    few' z j e h = omega arith
-
-    lo' : (z j : ℕ) → z + suc j ≡ 64 → 24 < suc j → j ≡ 23 + (40 - z)
-    lo' z j e h = omega arith
-
-    hi' : (z j : ℕ) → z + suc j ≡ 64 → 24 < suc j → suc j ≡ 24 + (40 - z)
-    hi' z j e h = omega arith
-
--- ---- what the code of `u64_to_f32` asks
-pub exact-in : (n : ℕ) → n < 16777216 → T (inFloat binary32 (pos n))
-unfolding inFloat
-exact-in n h = le→leb n 16777216 (le-of-lt h)
-
-small-k : (z : ℕ) → 1 + (40 - z) ≤ 64
-small-k z = omega arith
-
-pub unit-is : (z : ℕ) → 1 * 2 ^ (40 - z) % 18446744073709551616 ≡ 2 ^ (40 - z)
-unit-is z = shl-exact {a = 1} 1 (40 - z) 64 (lit< tt) (small-k z) ∙ one-mul (2 ^ (40 - z))
-
-pub unit-ok : (z : ℕ) → (0 < 1 * 2 ^ (40 - z) % 18446744073709551616) × (1 * 2 ^ (40 - z) % 18446744073709551616 ≤ 9223372036854775808)
-unit-ok z = subst (λ (u : ℕ). (0 < u) × (u ≤ 9223372036854775808)) (sym (unit-is z)) (pow-pos (40 - z), pow-mono (k63 z))
-  where
-    k63 : (y : ℕ) → 40 - y ≤ 63
-    k63 y = omega arith
-
-pub quotient-is : (a b : ℕ) → quotient a b ≡ closest a b
-unfolding quotient
-quotient-is a b = refl
-
-module _ (n r : ℕ) (a : 16777216 ≤ n) (b : n < 2 ^ 64) (e : r ≡ quotient n (1 * 2 ^ (40 - leadingZeros 64 n) % 18446744073709551616)) where
-  is : r ≡ closest n (2 ^ (40 - leadingZeros 64 n))
-  is = e ∙ ap (quotient n) (unit-is (leadingZeros 64 n)) ∙ quotient-is n (2 ^ (40 - leadingZeros 64 n))
-
-  L : Lead n
-  L = lead n a b
-
-  pub kept-le : r ≤ 16777216
-  kept-le = subst (λ (x : ℕ). x ≤ 16777216) (sym is) (kept-hi n (40 - leadingZeros 64 n) (L .lo) (L .hi))
-
-  pub pattern-lt : (149 + (40 - leadingZeros 64 n)) * 8388608 + r < 2139095040
-  pattern-lt = go (leadingZeros 64 n) r kept-le
-    where
-      go : (z x : ℕ) → x ≤ 16777216 → (149 + (40 - z)) * 8388608 + x < 2139095040
-      go z x h = omega arith
-
-  pub pattern-no-nan : T (not (nanBits binary32 ((149 + (40 - leadingZeros 64 n)) * 8388608 + r)))
-  pattern-no-nan = below-nan _ (le-of-lt pattern-lt)
-
-  pub nearest-is : ofBits binary32 ((149 + (40 - leadingZeros 64 n)) * 8388608 + r) ≡ ofInt binary32 (pos n)
-  nearest-is = ap (λ (x : ℕ). ofBits binary32 ((149 + (40 - leadingZeros 64 n)) * 8388608 + x)) is ∙ ofInt-bits n (40 - leadingZeros 64 n) (L .lo) (L .hi) (k103 (leadingZeros 64 n))
-    where
-      k103 : (y : ℕ) → 40 - y ≤ 103
-      k103 y = omega arith

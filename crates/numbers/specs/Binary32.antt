@@ -1,5 +1,5 @@
 -- Binary32 as the source computes with it: its operators, and `is_finite`, `abs`, `max` and `clamp` of Rust's `f32`, over every value.
--- A value is lib.Ieee's: `nan` (there is one, so "one NaN equals another"), `inf sign`, or `fin sign m e`, which is m * 2 ^ e.
+-- A value is lib.Ieee's: `nan` (there is only one, so one NaN equals another), `inf s`, or `fin s m e`, which is m * 2 ^ e; the sign s is true for minus.
 use mathlib.Core.Bool.{Bool, true, false, cond}
 use lib.Ieee.{Float, nan, inf, fin, binary32, add, sub, mul, div, lt, isNan, ofBits}
 

@@ -1,12 +1,11 @@
--- Conversions that lib.Ieee does not have. Whole numbers to binary32 and binary64 are its `ofInt`; cutting to h bits and a sign, as Rust's `as i64`, `as i32`, `as i16`,
--- `as i8` do (toward zero, held to the range, 0 for a NaN), is its `toSigned h`.
-use Prim.Native.Nat.{ℕ, _*_}
-use lib.Ieee.{Float, nan, inf, fin, binary32, up, down, round}
-use lib.Ieee.Nearest.{closest}
+-- Conversions that lib.Ieee does not have, and the rounding that they share. Whole numbers to binary32 and binary64 are lib.Ieee's `ofInt`; cutting to h bits and a sign,
+-- as Rust's `as i64`, `as i32`, `as i16` and `as i8` do (toward zero, held to the range, 0 for a NaN), is its `toSigned h`.
+use Prim.Native.Nat.{ℕ, _*_, _/_, _%_, compare}
+use lib.Ieee.{Float, nan, inf, fin, binary32, up, down, nearest, round}
 
--- n / u to the nearest whole number, a tie to the even one
-unfoldable pub quotient : ℕ → ℕ → ℕ
-quotient n u = closest n u
+-- n / u to the nearest whole number, a tie to the even one: by how twice the remainder compares with u
+unfoldable pub roundedQuotient : ℕ → ℕ → ℕ
+roundedQuotient n u = nearest (n / u) (compare (n % u * 2) u)
 
 -- binary64 to binary32, Rust's `as f32`: the nearest value, a tie to the even one; too large is an infinity. m * up e / down e is the size m * 2 ^ e
 unfoldable pub narrow : Float → Float

@@ -1,13 +1,12 @@
 // Module 1 of document 01, numbers: what the source takes from Rust's f32 and from dmm.rs, worked
-// out from bits. Every function is total; its contract is one equation with a definition of specs/
-// or of the logic's IEEE 754 (lib.Ieee).
+// out from bits. Every public function is total, and its contract is one equation with a definition
+// of specs/ or of the logic's IEEE 754 (lib.Ieee), where one type of values serves both formats.
 ghost use mathlib.Core.Path.{_≡_};
 ghost use Prim.Native.Nat.{_≤_, _<_, _^_};
 ghost use lib.IntN.{pos};
-ghost use lib.Ieee.{inf, binary32, binary64, ofInt, toSigned, ofBits};
-ghost use mathlib.Core.Bool.{false};
+ghost use lib.Ieee.{binary32, binary64, ofInt, toSigned, ofBits};
 ghost use Rattle.numbers.specs.Binary32.{isFinite, absOf, maxOf, clampOf};
-ghost use Rattle.numbers.specs.Convert.{quotient, narrow};
+ghost use Rattle.numbers.specs.Convert.{roundedQuotient, narrow};
 ghost use Rattle.numbers.specs.Root.{heron, sqrtOf, hypotOf};
 
 // ---- Rust's methods of f32
@@ -20,7 +19,8 @@ pub fn is_finite(x: f32) -> bool
     if x < infinity { -infinity < x } else { false }
 }
 
-// The size of x with a plus sign. The bits are undefined at a NaN, which is returned first.
+// The size of x with a plus sign; a NaN stays a NaN. (A NaN has no bits of its own here, so it is
+// told apart first, in this function and in the others that look at bits.)
 pub fn abs(x: f32) -> f32
     ensures { λ r. ⌜ r ≡ absOf x ⌝ }
 {
@@ -30,7 +30,8 @@ pub fn abs(x: f32) -> f32
     f32::from_bits(f32::to_bits(x) & 0x7fff_ffff)
 }
 
-// The larger; of a NaN and a number the number; of two zeros of unlike sign plus zero.
+// The larger; of a NaN and a number the number; of two NaNs a NaN; of two zeros of unlike sign plus
+// zero.
 pub fn max(a: f32, b: f32) -> f32
     ensures { λ r. ⌜ r ≡ maxOf a b ⌝ }
 {
@@ -49,7 +50,7 @@ pub fn max(a: f32, b: f32) -> f32
     if f32::to_bits(a) >= 0x8000_0000 { b } else { a }
 }
 
-// x held to lo..hi; a NaN stays.
+// x held to lo..hi; a NaN stays. Where hi is below lo, what is below lo gives lo.
 pub fn clamp(x: f32, lo: f32, hi: f32) -> f32
     ensures { λ r. ⌜ r ≡ clampOf x lo hi ⌝ }
 {
@@ -67,7 +68,7 @@ pub fn clamp(x: f32, lo: f32, hi: f32) -> f32
 // n / u to the nearest whole number, a tie to the even one.
 fn rounded_quotient(n: u64, u: u64) -> u64
     requires { ⌜ (0 < u) × (u ≤ 2 ^ 63) ⌝ }
-    ensures { λ r. ⌜ r ≡ quotient n u ⌝ }
+    ensures { λ r. ⌜ r ≡ roundedQuotient n u ⌝ }
 {
     let q = n / u;
     let r = n % u * 2;
@@ -80,15 +81,20 @@ fn rounded_quotient(n: u64, u: u64) -> u64
     q + q % 2
 }
 
-// Rust's n as f32. From 2^24 on, k digits are dropped, so that 24 stay: the leading zeros tell k,
-// and the pattern's exponent follows from it.
+// Rust's n as f32. The leading zeros tell how many digits n has, and so the exponent: up to 24
+// digits are moved up until the first stands in front; of more, the lowest k are rounded away.
 pub fn u64_to_f32(n: u64) -> f32
     ensures { λ r. ⌜ r ≡ ofInt binary32 (pos n) ⌝ }
 {
-    if n < 16777216 {
-        return n as f32;
+    if n == 0 {
+        return 0.0;
     }
-    let k = 40 - u64::leading_zeros(n);
+    let z = u64::leading_zeros(n);
+    if z >= 40 {
+        let s = z - 40;
+        return f32::from_bits((149 - s) * 8388608 + ((n << s) as u32));
+    }
+    let k = 40 - z;
     let m = rounded_quotient(n, 1u64 << k);
     f32::from_bits((149 + k) * 8388608 + (m as u32))
 }
@@ -146,7 +152,7 @@ pub fn f32_to_i32(x: f32) -> i32
     std::num::truncating_f32_to_i64(x) as i32
 }
 
-// Rust's x as i16.
+// Rust's x as i16; so is the source's cut to an i32 that is then held to 16 bits.
 pub fn f32_to_i16(x: f32) -> i16
     ensures { λ r. ⌜ r ≡ toSigned 15 x ⌝ }
 {
@@ -180,8 +186,9 @@ pub fn f32_to_i8(x: f32) -> i8
 
 // ---- between the formats
 
-// The binary32 pattern of the f64 whose pattern is b, with the sign clear, rounded: past the
-// largest value the infinity's, then the normal values, the subnormal ones, and zero.
+// The binary32 pattern of the f64 whose pattern is b, rounded. b has a clear sign and is at most
+// infinity's (7FF0000000000000h), so it is no NaN's, and neither is the answer (at most 7F800000h).
+// Past the largest value it is infinity's; then come the normal values, the subnormal ones, and zero.
 fn narrow_pattern(b: u64) -> u32
     requires { ⌜ b ≤ 9218868437227405312 ⌝ }
     ensures { λ r. ⌜ (ofBits binary32 r ≡ narrow (ofBits binary64 b)) × (r ≤ 2139095040) ⌝ }
@@ -223,7 +230,7 @@ pub fn f32_to_f64(x: f32) -> f64
     std::num::f32_to_f64_with_nan(x)
 }
 
-// ---- the root of dmm.rs
+// ---- the root and `hypot`, as decided for dmm.rs, which is not at hand
 
 // One step of Heron's iteration toward the root of x.
 fn heron_step(x: f32, y: f32) -> f32
@@ -232,7 +239,8 @@ fn heron_step(x: f32, y: f32) -> f32
     0.5 * (y + x / y)
 }
 
-// Not IEEE 754's square root: four steps from a seed. Of infinity it is a NaN.
+// Not IEEE 754's square root: four steps from a seed. Zero and below give plus zero; of infinity it
+// is a NaN. Of a subnormal x four steps do not reach the root.
 pub fn sqrt(x: f32) -> f32
     ensures { λ r. ⌜ r ≡ sqrtOf x ⌝ }
 {

@@ -8,4 +8,4 @@ use Rattle.pw.specs.declared.FrameCodes.{FrameCodes}
 -- "A refused call returns its number alone": the codes are then 0
 unfoldable pub frameCodes : Decoded → FrameCodes
 frameCodes (Taken codes) = record { refusal = decodedNumber (Taken codes); ad1 = codes .ad1; lpf = codes .lpf; rms = codes .rms }
-frameCodes (Refused refusal) = record { refusal = decodedNumber (Refused refusal); ad1 = pos 0; lpf = pos 0; rms = pos 0 }
+frameCodes Refused = record { refusal = decodedNumber Refused; ad1 = pos 0; lpf = pos 0; rms = pos 0 }

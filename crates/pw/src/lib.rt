@@ -3,6 +3,7 @@ ghost use mathlib.Core.Path.{_≡_};
 ghost use Rattle.codes.specs.Frame.{decoded};
 ghost use Rattle.pw.specs.Host.{frameCodes};
 use codes::Decoded;
+use refusals::Refusal;
 
 // `struct pw_codes`: the refusal's number, and the codes of the frame, 0 where it is refused.
 #[repr(C)]
@@ -26,9 +27,9 @@ pub extern "C" fn pw_decode(bytes: &[u8]) -> FrameCodes
             lpf: c.lpf,
             rms: c.rms,
         },
-        Decoded::Refused(refusal) => {
+        Decoded::Refused => {
             FrameCodes {
-                refusal: refusals::number(refusal),
+                refusal: refusals::number(Refusal::Frame),
                 ad1: 0,
                 lpf: 0,
                 rms: 0,

@@ -15,9 +15,10 @@ pub enum Refusal {
     Frame,
     // time of 2^48 ms or more
     Late,
-    // the accounting step would leave the range of a count, a time or a sum
+    // the accounting step would give a millijoule count or a counted time outside signed 64 bits, or
+    // a sum that is not finite or outside -2^63 <= sum < 2^63
     Full,
-    // one of the description's six numbers is NaN or outside 2^-20 to 2^20
+    // one of the description's six numbers is NaN or outside 2^-20 to 2^20, ends allowed
     Description,
     // calibration words not 73
     Words,

@@ -1,9 +1,10 @@
--- Every row holds, by computation.
+-- Every row holds, by computation, and none is lost.
 use mathlib.Core.Path.{_≡_, refl}
 use mathlib.Core.Bool.{true}
-use Rattle.codes.specs.Frame.{littleEndian, twosComplement}
+use lib.ListN.{length}
+use Rattle.codes.specs.Frame.{littleEndian, twosComplement, decoded}
 use Rattle.rows.specs.Rows.{all, rows}
 
-pub checked : all rows ≡ true
-unfolding rows littleEndian twosComplement
-checked = refl
+pub checked : (all rows ≡ true) × (length rows ≡ 6)
+unfolding rows decoded littleEndian twosComplement
+checked = (refl, refl)

@@ -1,1 +1,1 @@
-// No code: specs/Rows.antt has document 01's rows marked P, proofs/Checked.antt their check.
+// No code: specs/Rows.antt has rows of document 01 marked P, proofs/Checked.antt their check.

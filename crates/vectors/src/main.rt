@@ -45,16 +45,16 @@ fn decodes(frame: &[u8], ad1: i32, lpf: i32, rms: i64) -> bool {
             }
             c.rms == rms
         }
-        Decoded::Refused(_) => false,
+        Decoded::Refused => false,
     }
 }
 
-// The number that decoding a frame of this length is refused with, 0 where it is taken.
-fn refused(frame: &[u8]) -> u8 {
+// Whether a frame of this length is taken.
+fn taken(frame: &[u8]) -> bool {
     let answer = codes::decode(frame);
     match answer {
-        Decoded::Taken(_) => 0,
-        Decoded::Refused(refusal) => refusals::number(refusal),
+        Decoded::Taken(_) => true,
+        Decoded::Refused => false,
     }
 }
 
@@ -108,13 +108,13 @@ fn code_rows(s: Score) -> Score {
     )
 }
 
-// Rows 11 to 14: document 01, "frame not 14 bytes" is refusal 4.
+// Rows 11 to 14: document 01, "frame not 14 bytes" is refused.
 fn length_rows(s: Score) -> Score {
     let mut s = s;
-    s = row(s, 11, refused(b"") == 4);
-    s = row(s, 12, refused(b"\0\0\0\0\0\0\0\0\0\0\0\0\0") == 4);
-    s = row(s, 13, refused(b"\0\0\0\0\0\0\0\0\0\0\0\0\0\0") == 0);
-    row(s, 14, refused(b"\0\0\0\0\0\0\0\0\0\0\0\0\0\0\0") == 4)
+    s = row(s, 11, !taken(b""));
+    s = row(s, 12, !taken(b"\0\0\0\0\0\0\0\0\0\0\0\0\0"));
+    s = row(s, 13, taken(b"\0\0\0\0\0\0\0\0\0\0\0\0\0\0"));
+    row(s, 14, !taken(b"\0\0\0\0\0\0\0\0\0\0\0\0\0\0\0"))
 }
 
 // Rows 21 to 28: the root of dmm.rs. Of 3 it is not IEEE 754's 3FDDB3D7; of infinity it is a NaN.

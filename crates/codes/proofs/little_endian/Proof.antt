@@ -11,7 +11,7 @@ use Rattle.codes.proofs.little_endian.Statement.{statement}
 use Rattle.codes.proofs.little_endian.Tie as tie
 
 abbrev Inv-loop : tie.InvT-loop
-Inv-loop frame at n raw₀ left₀ raw left = (left ≤ n) × (raw ≡ littleEndian (n - left) (at + left) frame) × (raw < 2 ^ (8 * (n - left)))
+Inv-loop frame at n raw₀ left₀ raw left = (left ≤ n) × (raw ≡ littleEndian (at + left) (n - left) frame) × (raw < 2 ^ (8 * (n - left)))
 
 abbrev μ-loop : tie.MeasureT-loop
 μ-loop frame at n raw₀ left₀ raw left = left

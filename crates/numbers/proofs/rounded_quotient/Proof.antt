@@ -2,7 +2,7 @@
 use borrow.Author.Needs.{needs}
 use native.Mathlib.Omega.{arith}
 use native.Mathlib.Nat.{le-antisymm}
-use Rattle.numbers.proofs.Round.{below, above, even, twice-fits, next-fits}
+use Rattle.numbers.proofs.Quotient.{below, above, even, twice-fits, next-fits}
 use Rattle.numbers.proofs.rounded_quotient.Statement.{statement}
 use Rattle.numbers.proofs.rounded_quotient.Tie as tie
 

@@ -1,18 +1,44 @@
--- Below 2^24 the cast loses nothing; from there on the pattern is that of the rounded digits, with the exponent that the leading zeros tell.
+-- Zero; then, by the leading zeros, a number that nothing is dropped of, and one that is rounded.
+use Prim.Native.Nat.{_≤_, _<_}
 use borrow.Author.Needs.{needs}
 use native.Mathlib.Omega.{arith}
-use Rattle.numbers.proofs.Round.{lead, exact-in, unit-ok, kept-le, pattern-lt, pattern-no-nan, nearest-is}
+use lib.Count.{leadingZeros}
+use Rattle.numbers.proofs.Whole.{Digits, digits, zero-is, short-lt, short-no-nan, short-is, unit-ok, long-le, long-lt, long-no-nan, long-is}
 use Rattle.numbers.proofs.u64_to_f32.Statement.{statement}
 use Rattle.numbers.proofs.u64_to_f32.Tie as tie
 
-int-to-float-result : tie.Need-int-to-float-result
-int-to-float-result c = exact-in _ (c .before .if1 .taken)
+known : (c : tie.Else1) → Digits (c .before .args .n) (leadingZeros 64 (c .before .args .n))
+known c = digits _ (c .if1 .left) (c .before .fits .n .fits)
 
 returns : tie.Need-returns
-returns c = search needs
+returns c = zero-is _ (c .if1 .taken)
+
+sub-result : tie.Need-sub-result
+sub-result c = omega (arith, known (c .before) .some)
+
+mul-result : tie.Need-mul-result
+mul-result c = search needs
+
+cast-result : tie.Need-cast-result
+cast-result c = omega (arith, known (c .before) .some)
+
+shl-result : tie.Need-shl-result
+shl-result c = omega (arith, known (c .before) .some)
+
+cast-result-2 : tie.Need-cast-result-2
+cast-result-2 c = omega (arith, short-lt _ _ (known (c .before)) (c .if2 .taken))
+
+add-result : tie.Need-add-result
+add-result c = omega (arith, short-lt _ _ (known (c .before)) (c .if2 .taken))
+
+float-from-bits-result : tie.Need-float-from-bits-result
+float-from-bits-result c = short-no-nan _ _ (known (c .before)) (c .if2 .taken)
+
+returns-2 : tie.Need-returns-2
+returns-2 c = short-is _ _ (known (c .before)) (c .if2 .taken)
 
 sub-k : tie.Need-sub-k
-sub-k c = lead _ (c .if1 .left) (c .before .fits .n .fits) .few
+sub-k c = search needs
 
 cast-rounded-quotient : tie.Need-cast-rounded-quotient
 cast-rounded-quotient c = search needs
@@ -23,37 +49,44 @@ shl-rounded-quotient c = search needs
 rounded-quotient-requires : tie.Need-rounded-quotient-requires
 rounded-quotient-requires c κs = unit-ok _
 
-add-result : tie.Need-add-result
-add-result c = search needs
-
-mul-result : tie.Need-mul-result
-mul-result c = search needs
-
-cast-result : tie.Need-cast-result
-cast-result c = omega (arith, kept-le _ _ (c .before .if1 .left) (c .before .before .fits .n .fits) (c .rounded-quotient .ensures))
-
 add-result-2 : tie.Need-add-result-2
-add-result-2 c = omega (arith, pattern-lt _ _ (c .before .if1 .left) (c .before .before .fits .n .fits) (c .rounded-quotient .ensures))
+add-result-2 c = search needs
 
-float-from-bits-result : tie.Need-float-from-bits-result
-float-from-bits-result c = pattern-no-nan _ _ (c .before .if1 .left) (c .before .before .fits .n .fits) (c .rounded-quotient .ensures)
+mul-result-2 : tie.Need-mul-result-2
+mul-result-2 c = search needs
 
-returns-2 : tie.Need-returns-2
-returns-2 c = nearest-is _ _ (c .before .if1 .left) (c .before .before .fits .n .fits) (c .rounded-quotient .ensures)
+cast-result-3 : tie.Need-cast-result-3
+cast-result-3 c = omega (arith, long-le _ _ _ (known (c .before .before)) (c .before .if2 .left) (c .rounded-quotient .ensures))
+
+add-result-3 : tie.Need-add-result-3
+add-result-3 c = omega (arith, long-lt _ _ _ (known (c .before .before)) (c .before .if2 .left) (c .rounded-quotient .ensures))
+
+float-from-bits-result-2 : tie.Need-float-from-bits-result-2
+float-from-bits-result-2 c = long-no-nan _ _ _ (known (c .before .before)) (c .before .if2 .left) (c .rounded-quotient .ensures)
+
+returns-3 : tie.Need-returns-3
+returns-3 c = long-is _ _ _ (known (c .before .before)) (c .before .if2 .left) (c .rounded-quotient .ensures)
 
 pub u64-to-f32-spec : {M : Type 1} → statement M
 u64-to-f32-spec =
     tie.close
     (tie.spec
-    int-to-float-result
     returns
+    sub-result
+    mul-result
+    cast-result
+    shl-result
+    cast-result-2
+    add-result
+    float-from-bits-result
+    returns-2
     sub-k
     cast-rounded-quotient
     shl-rounded-quotient
     rounded-quotient-requires
-    add-result
-    mul-result
-    cast-result
     add-result-2
-    float-from-bits-result
-    returns-2)
+    mul-result-2
+    cast-result-3
+    add-result-3
+    float-from-bits-result-2
+    returns-3)

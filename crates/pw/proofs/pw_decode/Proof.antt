@@ -12,8 +12,8 @@ decode-requires c κs = search needs
 enum-known-answer : tie.Need-enum-known-answer
 enum-known-answer c = search needs
 
-enum-known-answer-2 : tie.Need-enum-known-answer-2
-enum-known-answer-2 c = search needs
+enum-told : tie.Need-enum-told
+enum-told c = search needs
 
 number-requires : tie.Need-number-requires
 number-requires c κs = search needs
@@ -33,10 +33,8 @@ returns c =
 returns-2 : tie.Need-returns-2
 unfolding frameCodes
 returns-2 c =
-    let d = c .before .before .before .before in
-    rw (c .number .ensures, ← d .decode .ensures, c .before .before .answer2 .given .1)
+    let d = c .before .before .before in
+    rw (c .number .ensures, ← d .decode .ensures, c .before .enum-told .given .1)
 
 pub pw-decode-spec : {M : Type 1} → statement M
-pw-decode-spec =
-    tie.close
-    (tie.spec decode-requires enum-known-answer enum-known-answer-2 number-requires returns returns-2)
+pw-decode-spec = tie.close (tie.spec decode-requires enum-known-answer enum-told number-requires returns returns-2)

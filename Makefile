@@ -1,0 +1,72 @@
+# make run       builds pwscript and runs an example script through it
+# make test      the merge gate, .ci/run
+# make compare   pwscript against the published Rust: SEED and LINES as one likes
+# make bench     nanoseconds per call, and both programs over one script
+# make clean     removes all that was built
+#
+# The libraries are proved and written by rt, to target/; all else goes to build/.
+
+SEED = 1
+LINES = 1000000
+
+CC = gcc
+CFLAGS = -std=c11 -Wall -Wextra -Werror -Wconversion -Iinclude -Ihost
+PLAIN = -O2
+SANITIZED = -g -O1 -fsanitize=address,undefined -fno-sanitize-recover=all
+
+LIBRARIES = target/staticlib
+PW = include/pw.h $(LIBRARIES)/libpw.a
+LEAVES = host/leaves.h $(LIBRARIES)/libleaves.a
+COMPILE = @mkdir -p $(@D) && echo "$(CC) $@" && $(CC) $(CFLAGS)
+INPUTS = $(filter %.c %.a,$^)
+
+.PHONY: run host test compare bench clean
+.NOTPARALLEL:
+.DELETE_ON_ERROR:
+
+run: build/pwscript
+	build/pwscript --echo < tests/example.script
+
+# All that the gate's host tests run.
+host: build/pwscript build/test_pw build/test_leaves \
+	build/sanitized/pwscript build/sanitized/test_pw build/sanitized/test_leaves
+
+test:
+	bash .ci/run
+
+compare: build/pwscript
+	tests/compare.sh $(SEED) $(LINES)
+
+bench: build/bench build/pwscript
+	host/bench.sh
+
+clean:
+	rm -rf build target
+
+build/pwscript: host/pwscript.c $(PW) $(LEAVES)
+	$(COMPILE) $(PLAIN) -o $@ $(INPUTS)
+
+build/sanitized/pwscript: host/pwscript.c $(PW) $(LEAVES)
+	$(COMPILE) $(SANITIZED) -o $@ $(INPUTS)
+
+build/test_pw: tests/test_pw.c $(PW)
+	$(COMPILE) $(PLAIN) -o $@ $(INPUTS)
+
+build/sanitized/test_pw: tests/test_pw.c $(PW)
+	$(COMPILE) $(SANITIZED) -o $@ $(INPUTS)
+
+build/test_leaves: tests/test_leaves.c $(LEAVES)
+	$(COMPILE) $(PLAIN) -o $@ $(INPUTS) -lm
+
+build/sanitized/test_leaves: tests/test_leaves.c $(LEAVES)
+	$(COMPILE) $(SANITIZED) -o $@ $(INPUTS) -lm
+
+build/bench: host/bench.c $(PW) $(LEAVES)
+	$(COMPILE) $(PLAIN) -o $@ $(INPUTS)
+
+# Written again where a file of a crate has changed, come or gone. Says in one line what was written,
+# and all where the library is not proved.
+target/staticlib/lib%.a: crates.txt $(shell find crates)
+	@mkdir -p build
+	@rt staticlib $* > build/$*.log 2>&1 || { cat build/$*.log; exit 1; }
+	@tail -n 1 build/$*.log

@@ -1,0 +1,54 @@
+/* bench: nanoseconds per call of pw_decode and of each leaf. */
+#define _POSIX_C_SOURCE 200809L
+#include "leaves.h"
+#include "pw.h"
+
+#include <stdio.h>
+#include <string.h>
+#include <time.h>
+
+enum { CALLS = 20000000 };
+
+static double seconds(void)
+{
+    struct timespec t;
+    clock_gettime(CLOCK_MONOTONIC, &t);
+    return (double)t.tv_sec + (double)t.tv_nsec * 1e-9;
+}
+
+/* A float of every sign and size, not NaN and not infinite, from a counter. */
+static float some_float(uint32_t k)
+{
+    uint32_t bits = k * 2654435761u & 0xFF7FFFFFu;
+    float x;
+    memcpy(&x, &bits, sizeof x);
+    return x;
+}
+
+/* Times CALLS calls of EXPRESSION in k; the results are summed, so that none
+ * is left out. The functions are in archives and are not inlined. */
+#define BENCH(name, type, expression)                                            \
+    do {                                                                         \
+        volatile type sum = 0;                                                   \
+        double start = seconds();                                                \
+        for (uint32_t k = 0; k < CALLS; k++)                                     \
+            sum = sum + (type)(expression);                                      \
+        printf("%-16s %6.2f ns\n", name, (seconds() - start) * 1e9 / CALLS);     \
+    } while (0)
+
+int main(void)
+{
+    static uint8_t frames[64][PW_FRAME_LENGTH];
+    for (uint32_t k = 0; k < sizeof frames; k++)
+        frames[k / PW_FRAME_LENGTH][k % PW_FRAME_LENGTH] = (uint8_t)(k * 2654435761u >> 24);
+    BENCH("(loop alone)", float, some_float(k));
+    BENCH("pw_decode", uint64_t, pw_decode(frames[k % 64], PW_FRAME_LENGTH).rms);
+    BENCH("leaf_u64_to_f32", float, leaf_u64_to_f32(k * UINT64_C(0x9E3779B97F4A7C15)));
+    BENCH("leaf_i64_to_f32", float, leaf_i64_to_f32((int64_t)(k * UINT64_C(0x9E3779B97F4A7C15))));
+    BENCH("leaf_f32_to_i64", uint64_t, leaf_f32_to_i64(some_float(k)));
+    BENCH("leaf_f32_to_i32", uint64_t, leaf_f32_to_i32(some_float(k)));
+    BENCH("leaf_max", float, leaf_max(some_float(k), some_float(~k)));
+    BENCH("leaf_sqrt", float, leaf_sqrt((float)(k + 1)));
+    BENCH("leaf_hypot", float, leaf_hypot(some_float(k), some_float(~k)));
+    return 0;
+}

@@ -1,0 +1,62 @@
+# shellcheck shell=bash
+# Sourced by the scripts of this folder and by host/bench.sh, from the repository's root.
+# tests/served holds the names of the functions that pwscript serves, and nothing else says which
+# lines are compared.
+
+oracle_manifest=../shared/oracle/Cargo.toml
+oracle_folder=build/oracle/release
+
+fail() {
+    echo "$0: $*" >&2
+    exit 1
+}
+
+# build_oracle: pworacle and pwgen, in build/oracle; nothing is done where they are up to date.
+build_oracle() {
+    [ -f "$oracle_manifest" ] || fail "$oracle_manifest is not there"
+    CARGO_TARGET_DIR=build/oracle cargo build --quiet --release --offline --manifest-path "$oracle_manifest" \
+        || fail "the oracle does not build"
+}
+
+# served_lines SEED LINES: that many lines of served functions, from `pwgen funcs SEED`.
+# It is asked for four times as many lines, since it draws other functions as well.
+served_lines() {
+    "$oracle_folder/pwgen" funcs "$1" $((4 * $2 + 1000)) | awk -v lines="$2" '
+        NR == FNR { served[$1]; next }
+        $1 == "f" && ($2 in served) && n < lines { print; n++ }' tests/served -
+}
+
+# questions SCRIPT: its lines without comments and empty lines.
+questions() {
+    grep -a -v -e '^#' -e '^$' "$1"
+}
+
+# first_difference QUESTIONS EXPECTED GOT
+first_difference() {
+    awk -v expected="$2" -v got="$3" '
+        {
+            if ((getline e < expected) <= 0) e = "(no answer)"
+            if ((getline g < got) <= 0) g = "(no answer)"
+            if (e "" != g "") { printf "line %d: %s\n  expected %s\n  got      %s\n", NR, $0, e, g; exit }
+        }' "$1"
+}
+
+# same_answers QUESTIONS EXPECTED GOT: true if there is a question, both have one answer to each of
+# them, byte for byte the same, and none is `?` or a panic; otherwise it says what is wrong.
+same_answers() {
+    local lines file bad
+    lines=$(wc -l < "$1")
+    [ "$lines" -gt 0 ] || { echo "there is no question"; return 1; }
+    if ! cmp -s "$2" "$3"; then
+        first_difference "$1" "$2" "$3"
+        echo "$lines questions, $(wc -l < "$2") answers expected, $(wc -l < "$3") got"
+        return 1
+    fi
+    for file in "$2" "$3"; do
+        [ "$(wc -l < "$file")" -eq "$lines" ] || { echo "not $lines answers in $file"; return 1; }
+        if bad=$(grep -a -n -m 1 -e '^?$' -e PANIC -e '^$' "$file"); then
+            echo "no figure in $file, line $bad"
+            return 1
+        fi
+    done
+}

@@ -1,0 +1,183 @@
+#!/bin/bash
+# tests/test_pwscript.sh PROGRAM: how pwscript reads lines. A bad line answers `?` and changes nothing:
+# the good lines around it answer as they do alone.
+set -u -o pipefail
+cd "$(dirname "$0")/.." || exit 1
+. tests/answers.sh
+
+[ $# -eq 1 ] || fail "usage: tests/test_pwscript.sh PROGRAM"
+program=$1
+work=$(mktemp -d) || exit 1
+trap 'rm -rf "$work"' EXIT
+checks=0 failed=0
+
+# count WHAT STATUS: one check, held if STATUS is 0.
+count() {
+    checks=$((checks + 1))
+    [ "$2" -eq 0 ] && return
+    failed=$((failed + 1))
+    echo "FAILED $1"
+}
+
+# answers WHAT EXPECTED: PROGRAM's answer to $work/in is EXPECTED (escapes as printf %b), and its status 0.
+answers() {
+    printf '%b' "$2" > "$work/expected"
+    "$program" < "$work/in" > "$work/out" 2> "$work/err" && [ ! -s "$work/err" ] && cmp -s "$work/expected" "$work/out"
+    count "$1" $?
+}
+
+# says INPUT EXPECTED, both with escapes.
+says() {
+    printf '%b' "$1" > "$work/in"
+    answers "$1" "$2"
+}
+
+# Document 01: AD1 00 00 80; the root of 3.
+ad1='f ad1 000080\n' ad1_is='= -8388608\n'
+root='f sqrt 40400000\n' root_is='= 3fddb3d8\n'
+
+good() { says "$root$1\n$ad1" "$root_is$2\n$ad1_is"; }
+bad() { good "$1" '?'; }
+silent() { says "$root$1\n$ad1" "$root_is$ad1_is"; }
+
+# The lines that are replayed are those of the served functions, of each and of no other.
+[ -s tests/served ] || fail "tests/served is missing or empty"
+for script in tests/limits.script tests/recorded/functions.script; do
+    cmp -s <(sort tests/served) <(questions "$script" | cut -d ' ' -f 2 | sort -u)
+    count "$script has the functions of tests/served" $?
+done
+
+# Every served function answers a figure, and `?` with an argument too few, too many or malformed.
+while read -r name; do
+    grep "^f $name " tests/limits.script > "$work/in"
+    "$program" < "$work/in" > "$work/out"
+    same_answers "$work/in" "$work/out" "$work/out" > /dev/null
+    count "$name is served" $?
+    line=$(head -n 1 "$work/in")
+    bad "${line% *}"
+    bad "$line 00000000"
+    bad "$line nan"
+    bad "${line}x"
+    bad "${line}-"
+    bad "${line}\0000"
+    bad "${line% *} -"
+    bad "${line% *} ?"
+    bad "${line/f $name/f ${name}x}"
+    bad "${line/f $name/f ${name^^}}"
+    bad "${line/f $name/f$name}"
+    bad "${line/f $name/F $name}"
+    bad "${line/f $name/f f $name}"
+done < tests/served
+
+# Lines of the protocol that are not served yet: a name that comes to tests/served leaves this list.
+for line in \
+    'f ema 3f800000 3f000000 3f800000 00000000' 'f ema_rel 3e800000 3f800000 3f800000 3f800000' \
+    'f totals 3f800000 3f800000 3f800000 3f800000 3f800000 3f800000' 'f iu_ir 5' 'f cmp_window 00000000 3d4ccccd' \
+    'f energy_format 3f000000 0' 'f p_format 3f800000 3f800000 0' 'f cal_outcome 42fefae1' \
+    'f acc 0 00000000 3a800000' 'f acc_wh 5 00000000' 'f no_neg_zero 80000000 3' 'f r36 -5' 'f coup_of 3' \
+    'f next_coupling 3' 'f coup_name 3' 'f cal 4 3f800000' 'f v_gain_factory 2' 'f v_gain 2' 'f bt_mode 0 3' \
+    'f vals 1 1 0 0 0 0 3f800000 3f800000 3f800000 3f800000 3f800000 3f800000' 'f zero' 'f ring_text' 'f knobs' \
+    'meter 3f800000 3f800000 3f800000 3f800000 3f800000 3f800000 0 0 z73' 'on 0' 'off 0' 'method 0 1' \
+    'coupling 0 1' 'zero 0' 'gain 0' 'reapply 0' 'ranges 0 k a' 'phase' 'ereset' 'run 1' \
+    'set 1 3c23d70a 3f000000 423e0000 40c00000 30 0' 'frame 0 1c 0000000000000000000000000000' 'dump' 'dump on' 'hash'; do
+    bad "$line"
+done
+
+# Bytes: too few, too many, half of one, no hex digit.
+for bytes in 0000 00 0 000080ff 00008 00008g 0x0080 '+00080' '-00080' '00 0080' '00\0000080'; do bad "f ad1 $bytes"; done
+for bytes in ffff 00000004 00004; do bad "f lpf $bytes"; done
+for bytes in ffffffff ffffffff1f00 fffffff1f ffffffff1g ffff03; do bad "f rms $bytes"; done
+
+# Whole numbers: the ends and one past them, signs, no digit.
+good 'f i2f 9223372036854775807' '= 5f000000'
+good 'f i2f -9223372036854775808' '= df000000'
+good 'f u2f 18446744073709551615' '= 5f800000'
+good 'f i2f +1' '= 3f800000'
+for number in 9223372036854775808 -9223372036854775809 99999999999999999999 18446744073709551616 - + +-1 -+1 --1 \
+    1- 1.0 1e3 0x1 1f nan '1\0000' ' ' ''; do bad "f i2f $number"; done
+for number in 18446744073709551616 18446744073709551617 36893488147419103232 184467440737095516150 -1 -0 + 1.0 a; do
+    bad "f u2f $number"
+done
+
+# Floats: exactly 8 hex digits of either case, or nan.
+good 'f sqrt 40C00000' '= 401cc470'
+good 'f sqrt 40c00000' '= 401cc470'
+good 'f sqrt nan' '= nan'
+good 'f sqrt ffc00001' '= nan'
+for float in 0 4040000 404000000 0x404000 4040000g +4040000 -4040000 NaN NAN nan0 inf 3.0 '4040\0000000' '\0300404000'; do
+    bad "f sqrt $float"
+    bad "f max $float 00000000"
+    bad "f max 00000000 $float"
+done
+
+# Bad lines of other kinds.
+for line in f 'f ' x '?' '=' sqrt 'sqrt 40400000' ';' '= 3fddb3d8' 'f # sqrt' 'f sqrt # 40400000' 'f sqrt 40400000 # three' \
+    '\0000' '\0377' '\0000f sqrt 40400000' 'f\0000 sqrt 40400000' 'f\vsqrt\v40400000' 'f,sqrt,40400000' \
+    '//' '-- f sqrt 40400000' '\0000# no comment'; do
+    bad "$line"
+done
+
+# White space around and between words, and line ends of carriage return and line feed.
+for line in ' f sqrt 40c00000' 'f  sqrt   40c00000' 'f\tsqrt\t40c00000' '\t f sqrt 40c00000 \t' 'f sqrt 40c00000\r' \
+    'f\fsqrt\r40c00000' '\vf sqrt 40c00000\v'; do
+    good "$line" '= 401cc470'
+done
+
+# No answer: comments and empty lines.
+for line in '' ' ' '\t' '\r' '\v' ' \v\f\t\r ' '#' '# f sqrt 40400000' '  # f sqrt 40400000' '#\0000' '#\0377' '#f'; do
+    silent "$line"
+done
+
+# The end of the input, with and without a line feed.
+says '' ''
+says '\n' ''
+says '\n\n\n' ''
+says "$ad1" "$ad1_is"
+says "$ad1${root%\\n}" "$ad1_is$root_is"
+says "${ad1}f sqrt" "${ad1_is}?\n"
+says "${ad1}f ad1 0000" "${ad1_is}?\n"
+says "${ad1}# comment" "$ad1_is"
+says "${ad1} " "$ad1_is"
+says "$ad1\0000" "${ad1_is}?\n"
+
+# Long lines. tiled TEXT COUNT: TEXT over and over, COUNT characters in all. long WHAT EXPECTED reads
+# the line (not from a pipe, which would count the check in a process of its own).
+tiled() { yes "$1" | tr -d '\n' | head -c "$2"; }
+long() {
+    { printf '%b' "$root"; cat; printf '\n%b' "$ad1"; } > "$work/in"
+    answers "$1" "$root_is$2$ad1_is"
+}
+long 'five with three million zeros before it' '= 40a00000\n' < <(printf 'f i2f '; tiled 0 3000000; printf 5)
+long 'three million digits' '?\n' < <(printf 'f i2f '; tiled 9 3000000)
+long 'three million hex digits' '?\n' < <(printf 'f sqrt '; tiled 40400000 3000000)
+long 'one and a half million bytes' '?\n' < <(printf 'f rms '; tiled 00 3000000)
+long 'three million spaces at the end' '= 401cc470\n' < <(printf 'f sqrt 40c00000'; tiled ' ' 3000000)
+long 'three million spaces between' '= 401cc470\n' < <(printf 'f'; tiled ' ' 3000000; printf 'sqrt 40c00000')
+long 'a third of a million arguments' '?\n' < <(printf 'f max 00000000'; tiled ' 3f800000' 2999997)
+long 'a long comment' '' < <(printf '#'; tiled ' f sqrt 40400000' 3000000)
+long 'a long word' '?\n' < <(printf 'f sqrt 40400000'; tiled z 3000000)
+long 'three million zero bytes' '?\n' < <(head -c 3000000 /dev/zero)
+for words in 12 13 14 15 16 17; do
+    long "f max with $words arguments" '?\n' < <(printf 'f max'; tiled ' nan' $((4 * words)))
+done
+
+# The status: 2 for a wrong option, 1 where the input cannot be read or the answers not written.
+"$program" --no-such-option < /dev/null > "$work/out" 2> /dev/null
+[ $? -eq 2 ] && [ ! -s "$work/out" ]
+count 'a wrong option' $?
+"$program" < . > /dev/null 2>&1
+[ $? -eq 1 ]
+count 'a folder as input' $?
+printf '%b' "$ad1" > "$work/in"
+"$program" < "$work/in" > /dev/full 2> /dev/null
+[ $? -eq 1 ]
+count 'a full disk' $?
+
+# --echo: each line, then its answer.
+printf '# roots\n\n%bbad' "$root" > "$work/in"
+printf '# roots\n\n%b%bbad\n?\n' "$root" "$root_is" > "$work/expected"
+"$program" --echo < "$work/in" > "$work/out" && cmp -s "$work/expected" "$work/out"
+count '--echo' $?
+
+echo "test_pwscript: $checks checks, $failed failed"
+[ "$failed" -eq 0 ]
