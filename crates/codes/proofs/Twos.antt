@@ -1,29 +1,27 @@
 -- Two's complement of w bits: what the code of `twos_complement` asks and answers, and the range of the answer. Assumes nothing.
 use mathlib.Core.Path.{_≡_, refl, sym, ap, _∙_, subst}
 use mathlib.Core.Bool.{Bool, true, false, cond}
-use Prim.Native.Nat.{ℕ, zero, suc, _+_, _-_, _*_, _/_, _%_, _^_, _≤_, _<_}
-use native.Mathlib.Nat.{zero-add, one-mul, mod-lt, pow-suc, lt-of-lt-of-le}
+use Prim.Native.Nat.{ℕ, suc, _-_, _*_, _/_, _%_, _^_, _≤_, _<_}
+use native.Mathlib.Nat.{mod-lt, pow-suc, lt-of-lt-of-le}
 use native.Mathlib.Omega.{arith}
 use borrow.Author.Tests.{lt-ltb, le-ltb, ltb-true, ltb-false}
-use lib.Dec.{ltb, lit<}
+use lib.Dec.{ltb}
 use lib.IntN.{ℤ, pos, negsuc, subℕ, _-ℤ_}
-use lib.Pow.{pow-pos, pow-mono, shl-exact}
+use lib.Pow.{pow-pos, pow-mono}
 use lib.Signed.{mag}
 use mir.Syntax.{Width, w64}
 use mir.Val.{SFits, toZ, ofZ, hbits}
 use mir.ValLaws.{toZ-pos, toZ-ofZ}
+use Rattle.numbers.proofs.Shift.{Shifted, shift-is}
+use Rattle.numbers.proofs.Cutting.{minus-one}
 use Rattle.codes.specs.Frame.{twosComplement}
 
 -- ---- the span of w bits, 2 ^ w, and its half
--- `1u64 << w`
-abbrev Span : ℕ → ℕ
-Span w = 1 * 2 ^ w % 18446744073709551616
-
-span-is : (w : ℕ) → w ≤ 62 → Span w ≡ 2 ^ w
-span-is w h = shl-exact {a = 1} 1 w 64 (lit< tt) (room w h) ∙ one-mul (2 ^ w)
+span-is : (w : ℕ) → w ≤ 62 → Shifted w ≡ 2 ^ w
+span-is w h = shift-is w (go w h)
   where
-    room : (y : ℕ) → y ≤ 62 → 1 + y ≤ 64
-    room y p = omega arith
+    go : (y : ℕ) → y ≤ 62 → y ≤ 63
+    go y p = omega arith
 
 twice : (w : ℕ) → 0 < w → 2 ^ w ≡ 2 ^ (w - 1) * 2
 twice w h = subst (λ (v : ℕ). 2 ^ v ≡ 2 ^ (w - 1) * 2) (back w h) (pow-suc 2 (w - 1))
@@ -31,14 +29,9 @@ twice w h = subst (λ (v : ℕ). 2 ^ v ≡ 2 ^ (w - 1) * 2) (back w h) (pow-suc 
     back : (y : ℕ) → 0 < y → suc (y - 1) ≡ y
     back y p = omega arith
 
--- -1 - k
-minus-one : (k : ℕ) → negsuc 0 -ℤ pos k ≡ negsuc k
-minus-one zero = refl
-minus-one (suc k) = ap (λ (n : ℕ). negsuc (suc n)) (zero-add k)
-
 module _ (w raw : ℕ) (W : 0 < w) (H : w ≤ 62) where
   abbrev S : ℕ
-  S = Span w
+  S = Shifted w
 
   abbrev low : ℕ
   low = raw % S

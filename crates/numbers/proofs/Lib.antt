@@ -1,3 +1,4 @@
+pub mod Shift
 pub mod Pattern
 pub mod Order
 pub mod Root
@@ -6,5 +7,5 @@ pub mod Quotient
 pub mod Whole
 pub mod Narrow
 pub mod NarrowSign
-pub mod Cut
+pub mod Cutting
 pub mod Stated

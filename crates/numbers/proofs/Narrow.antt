@@ -3,11 +3,11 @@ use mathlib.Core.Path.{_≡_, refl, sym, ap, _∙_, subst}
 use mathlib.Core.Logic.{_⊎_, inl, inr}
 use mathlib.Core.Bool.{Bool, true, false, true≢false}
 use Prim.Native.Nat.{ℕ, zero, suc, _+_, _-_, _*_, _/_, _%_, _^_, _≤_, _<_, compare}
-use native.Mathlib.Nat.{le-trans, le-of-eq, lt-of-lt-of-le, lt-of-le-of-lt, mul-one, one-mul, mul-assoc, mul-pos, mod-lt, mod-eq-of-lt, div-eq-of-lt, mul-le-mul-right, mul-lt-mul-of-pos-right, le-div-iff-mul-le, div-lt-iff-lt-mul, le-add-right, pow-suc, eq-or-lt-of-le}
+use native.Mathlib.Nat.{le-trans, le-of-eq, lt-of-lt-of-le, lt-of-le-of-lt, mul-one, mul-assoc, mul-pos, mod-lt, mod-eq-of-lt, div-eq-of-lt, mul-le-mul-right, mul-lt-mul-of-pos-right, le-div-iff-mul-le, div-lt-iff-lt-mul, le-add-right, pow-suc, eq-or-lt-of-le}
 use native.Mathlib.Omega.{arith}
 use borrow.Author.Tests.{lt-leb}
 use lib.Dec.{leb, lit≤, lit<}
-use lib.Pow.{pow-add, pow-pos, pow-mono, shl-lt, shl-exact}
+use lib.Pow.{pow-add, pow-pos, pow-mono, shl-lt}
 use lib.Ieee.{Float, nan, inf, fin, binary32, binary64, up, down, size, units, round, ofFields, ofBits}
 use lib.Ieee.Digits.{size-le}
 use lib.Ieee.Fits.{round-is, core, down-pos, nearest-le}
@@ -16,6 +16,7 @@ use lib.Ieee.Nearest.{closest, closest-same}
 use lib.Ieee.Scale.{round-same}
 use Rattle.numbers.specs.Convert.{roundedQuotient, narrow}
 use Rattle.numbers.proofs.Round.{at-field, no-field, size-is, kept-lo, kept-hi, units-over, units-bits-all, units-bits-low}
+use Rattle.numbers.proofs.Shift.{Shifted, shift-is, shift-in}
 use Rattle.numbers.proofs.Quotient.{quotient-is, below}
 
 -- ---- the fields of an f64's pattern with the sign clear
@@ -290,21 +291,18 @@ module _ (b : ℕ) (h : b ≤ Top) where
         go : (y z : ℕ) → 897 ≤ y → y < 1151 → z ≤ 16777216 → (y - 897) * 8388608 + z ≤ 2139095040
         go y z p r v = omega arith
 
-  unit-is : 868 ≤ e → 1 * 2 ^ (926 - e) % 18446744073709551616 ≡ 2 ^ (926 - e)
-  unit-is l = shl-exact {a = 1} 1 (926 - e) 64 (lit< tt) (room e l) ∙ one-mul (2 ^ (926 - e))
+  few-dropped : 868 ≤ e → 926 - e ≤ 63
+  few-dropped l = go e l
     where
-      room : (y : ℕ) → 868 ≤ y → 1 + (926 - y) ≤ 64
-      room y p = omega arith
+      go : (y : ℕ) → 868 ≤ y → 926 - y ≤ 63
+      go y p = omega arith
 
-  pub unit-ok : 868 ≤ e → (0 < 1 * 2 ^ (926 - e) % 18446744073709551616) × (1 * 2 ^ (926 - e) % 18446744073709551616 ≤ 9223372036854775808)
-  unit-ok l = subst (λ (u : ℕ). (0 < u) × (u ≤ 9223372036854775808)) (sym (unit-is l)) (pow-pos (926 - e), pow-mono (k63 e l))
-    where
-      k63 : (y : ℕ) → 868 ≤ y → 926 - y ≤ 63
-      k63 y p = omega arith
+  pub unit-ok : 868 ≤ e → (0 < Shifted (926 - e)) × (Shifted (926 - e) ≤ 9223372036854775808)
+  unit-ok l = shift-in (926 - e) (few-dropped l)
 
-  module _ (q : ℕ) (n : q ≡ roundedQuotient (H + t) (1 * 2 ^ (926 - e) % 18446744073709551616)) (l : 868 ≤ e) (u : e < 897) where
+  module _ (q : ℕ) (n : q ≡ roundedQuotient (H + t) (Shifted (926 - e))) (l : 868 ≤ e) (u : e < 897) where
     is-low : q ≡ closest (H + t) (2 ^ (926 - e))
-    is-low = n ∙ ap (roundedQuotient (H + t)) (unit-is l) ∙ quotient-is (H + t) (2 ^ (926 - e))
+    is-low = n ∙ ap (roundedQuotient (H + t)) (shift-is (926 - e) (few-dropped l)) ∙ quotient-is (H + t) (2 ^ (926 - e))
 
     pub low-le : q ≤ 8388608
     low-le = subst (λ (y : ℕ). y ≤ 8388608) (sym is-low) (small-kept (H + t) (926 - e) (lead-hi t T5) (thirty e u))

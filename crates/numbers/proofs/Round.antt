@@ -53,7 +53,7 @@ f-x x t h k = omega arith
 f-t : (x t : ℕ) → t < 8388608 → (x * 8388608 + t) % 8388608 ≡ t
 f-t x t k = omega arith
 
-by-fields : (x t : ℕ) → x < 256 → t < 8388608 → ofBits binary32 (x * 8388608 + t) ≡ ofFields binary32 false x t
+pub by-fields : (x t : ℕ) → x < 256 → t < 8388608 → ofBits binary32 (x * 8388608 + t) ≡ ofFields binary32 false x t
 by-fields x t h k =
     ofBits-is (x * 8388608 + t)
     ∙ ap (λ (s : Bool). ofFields binary32 s ((x * 8388608 + t) % 2147483648 / 8388608) ((x * 8388608 + t) % 8388608)) (lt-leb 2147483648 (x * 8388608 + t) (f-lt x t h k))

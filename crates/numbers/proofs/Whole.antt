@@ -5,7 +5,7 @@ use Prim.Native.Nat.{ℕ, suc, _+_, _-_, _*_, _/_, _%_, _^_, _≤_, _<_}
 use native.Mathlib.Nat.{le-trans, le-of-eq, lt-of-lt-of-le, one-mul, mul-assoc, mul-pos, div-one, mul-one, mod-eq-of-lt, mul-le-mul-right, le-of-lt}
 use native.Mathlib.Omega.{arith}
 use lib.Dec.{T, lit<}
-use lib.Pow.{pow-add, pow-pos, pow-mono, shl-lt, shl-exact}
+use lib.Pow.{pow-add, pow-pos, pow-mono, shl-lt}
 use lib.Count.{leadingZeros, leading-top}
 use lib.Ieee.{binary32, size, units, ofBits, ofInt, nanBits}
 use lib.Ieee.Fits.{round-is, core}
@@ -13,6 +13,7 @@ use lib.Ieee.Nearest.{closest, closest-same}
 use lib.IntN.{pos}
 use Rattle.numbers.specs.Convert.{roundedQuotient}
 use Rattle.numbers.proofs.Pattern.{below-nan}
+use Rattle.numbers.proofs.Shift.{Shifted, shift-is, shift-in}
 use Rattle.numbers.proofs.Round.{size-is, units-bits, kept-hi, ofInt-bits}
 use Rattle.numbers.proofs.Quotient.{quotient-is, below}
 
@@ -128,21 +129,15 @@ module _ (n z : ℕ) (D : Digits n z) (Z : 40 ≤ z) where
   short-is = ap (λ (x : ℕ). ofBits binary32 ((149 - s) * 8388608 + x)) shifted ∙ short-bits n s few from to
 
 -- ---- more digits: the lowest k are dropped, and the rest rounded
-pub unit-is : (z : ℕ) → 1 * 2 ^ (40 - z) % 18446744073709551616 ≡ 2 ^ (40 - z)
-unit-is z = shl-exact {a = 1} 1 (40 - z) 64 (lit< tt) (room z) ∙ one-mul (2 ^ (40 - z))
-  where
-    room : (y : ℕ) → 1 + (40 - y) ≤ 64
-    room y = omega arith
+few-dropped : (z : ℕ) → 40 - z ≤ 63
+few-dropped z = omega arith
 
-pub unit-ok : (z : ℕ) → (0 < 1 * 2 ^ (40 - z) % 18446744073709551616) × (1 * 2 ^ (40 - z) % 18446744073709551616 ≤ 9223372036854775808)
-unit-ok z = subst (λ (u : ℕ). (0 < u) × (u ≤ 9223372036854775808)) (sym (unit-is z)) (pow-pos (40 - z), pow-mono (room z))
-  where
-    room : (y : ℕ) → 40 - y ≤ 63
-    room y = omega arith
+pub unit-ok : (z : ℕ) → (0 < Shifted (40 - z)) × (Shifted (40 - z) ≤ 9223372036854775808)
+unit-ok z = shift-in (40 - z) (few-dropped z)
 
-module _ (n z r : ℕ) (D : Digits n z) (Z : z < 40) (e : r ≡ roundedQuotient n (1 * 2 ^ (40 - z) % 18446744073709551616)) where
+module _ (n z r : ℕ) (D : Digits n z) (Z : z < 40) (e : r ≡ roundedQuotient n (Shifted (40 - z))) where
   is : r ≡ closest n (2 ^ (40 - z))
-  is = e ∙ ap (roundedQuotient n) (unit-is z) ∙ quotient-is n (2 ^ (40 - z))
+  is = e ∙ ap (roundedQuotient n) (shift-is (40 - z) (few-dropped z)) ∙ quotient-is n (2 ^ (40 - z))
 
   lo24 : 2 ^ (23 + (40 - z)) ≤ n
   lo24 = subst (λ (x : ℕ). 2 ^ x ≤ n) (go z Z) (D .lo)

@@ -120,68 +120,51 @@ pub fn i64_to_f64(n: i64) -> f64
 
 // ---- cutting: toward zero, held to the range, 0 for a NaN
 
-// Rust's x as i64.
-pub fn f32_to_i64(x: f32) -> i64
-    ensures { λ r. ⌜ r ≡ toSigned 63 x ⌝ }
+// x cut to h bits and a sign. The range ends at 2^h, whose pattern has an exponent and no more.
+fn cut(x: f32, h: u32) -> i64
+    requires { ⌜ h ≤ 63 ⌝ }
+    ensures { λ r. ⌜ r ≡ toSigned h x ⌝ }
 {
     if x != x {
         return 0;
     }
-    if x >= 9223372036854775808.0 {
-        return 9223372036854775807;
+    let end = f32::from_bits((127 + h) * 8388608);
+    let most = ((1u64 << h) - 1) as i64;
+    if x >= end {
+        return most;
     }
-    if x < -9223372036854775808.0 {
-        return -9223372036854775808;
+    if x < -end {
+        return -1 - most;
     }
     std::num::truncating_f32_to_i64(x)
+}
+
+// Rust's x as i64.
+pub fn f32_to_i64(x: f32) -> i64
+    ensures { λ r. ⌜ r ≡ toSigned 63 x ⌝ }
+{
+    cut(x, 63)
 }
 
 // Rust's x as i32.
 pub fn f32_to_i32(x: f32) -> i32
     ensures { λ r. ⌜ r ≡ toSigned 31 x ⌝ }
 {
-    if x != x {
-        return 0;
-    }
-    if x >= 2147483648.0 {
-        return 2147483647;
-    }
-    if x < -2147483648.0 {
-        return -2147483648;
-    }
-    std::num::truncating_f32_to_i64(x) as i32
+    cut(x, 31) as i32
 }
 
 // Rust's x as i16; so is the source's cut to an i32 that is then held to 16 bits.
 pub fn f32_to_i16(x: f32) -> i16
     ensures { λ r. ⌜ r ≡ toSigned 15 x ⌝ }
 {
-    if x != x {
-        return 0;
-    }
-    if x >= 32768.0 {
-        return 32767;
-    }
-    if x < -32768.0 {
-        return -32768;
-    }
-    std::num::truncating_f32_to_i64(x) as i16
+    cut(x, 15) as i16
 }
 
 // Rust's x as i8.
 pub fn f32_to_i8(x: f32) -> i8
     ensures { λ r. ⌜ r ≡ toSigned 7 x ⌝ }
 {
-    if x != x {
-        return 0;
-    }
-    if x >= 128.0 {
-        return 127;
-    }
-    if x < -128.0 {
-        return -128;
-    }
-    std::num::truncating_f32_to_i64(x) as i8
+    cut(x, 7) as i8
 }
 
 // ---- between the formats

@@ -5,7 +5,7 @@ use mathlib.Core.Path.{_≡_, ap, _∙_}
 use lib.Dec.{lit<, lit≤}
 use mir.Syntax.{w32, w64}
 use mir.ValLaws.{toZ-ofZ}
-use Rattle.numbers.proofs.Cut.{cast-fits, cast-is}
+use Rattle.numbers.proofs.Cutting.{cast-fits, cast-is}
 use Rattle.codes.specs.Frame.{twosComplement, ad1Of, lpfOf, rmsOf, decoded}
 use Rattle.codes.proofs.Twos.{narrow-fits}
 use Rattle.codes.proofs.decode.Statement.{statement}

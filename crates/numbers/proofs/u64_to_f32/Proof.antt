@@ -1,5 +1,4 @@
 -- Zero; then, by the leading zeros, a number that nothing is dropped of, and one that is rounded.
-use Prim.Native.Nat.{_≤_, _<_}
 use borrow.Author.Needs.{needs}
 use native.Mathlib.Omega.{arith}
 use lib.Count.{leadingZeros}

@@ -1,19 +1,27 @@
--- Rust's `as` from a float to h bits and a sign, by two tests and a truncation to 64 bits: one law over h, for h = 63, 31, 15 and 7. Assumes nothing.
+-- Rust's `as` from a float to h bits and a sign, by two tests and a truncation to 64 bits: one law over h. Assumes nothing.
 use mathlib.Core.Path.{_≡_, refl, sym, ap, _∙_, subst}
-use mathlib.Core.Bool.{Bool, true, false, _&&_, _||_, true≢false, false≢true}
-use Prim.Native.Nat.{ℕ, _+_, _-_, _*_, _/_, _^_, _≤_, _<_, min}
-use native.Mathlib.Nat.{le-of-lt, le-of-eq, le-trans, lt-of-lt-of-le, one-mul, mul-one, mul-comm, mul-pos, mul-le-mul-right, div-lt-iff-lt-mul, div-le-of-le-mul, le-div-iff-mul-le}
+use mathlib.Core.Bool.{Bool, true, false, not, cond, _&&_, _||_, true≢false, false≢true}
+use Prim.Native.Nat.{ℕ, zero, suc, _+_, _-_, _*_, _/_, _^_, _≤_, _<_, min}
+use native.Mathlib.Nat.{zero-add, le-of-lt, le-of-eq, le-trans, lt-of-lt-of-le, one-mul, mul-one, mul-comm, mul-pos, mul-le-mul-right, div-lt-iff-lt-mul, div-le-of-le-mul, le-div-iff-mul-le}
 use native.Mathlib.Omega.{arith}
-use borrow.Author.Tests.{ltb-true, ltb-false, eqb-true, eqb-false, eq-eqb}
+use borrow.Author.Tests.{le-leb, ltb-true, ltb-false, eqb-true, eqb-false, eq-eqb}
 use lib.Dec.{T, ltb, eqb, lt→ltb, lit<}
-use lib.IntN.{ℤ, pos, negℤ}
+use lib.IntN.{ℤ, pos, negsuc, negℤ, _-ℤ_}
 use lib.Pow.{pow-pos, pow-mono}
-use lib.Ieee.{Float, nan, inf, fin, up, down, ne, lt, le, eq, neg, toSigned}
+use lib.Count.{trailingZeros}
+use lib.Ieee.{Float, nan, inf, fin, binary32, up, down, odd, ne, lt, le, eq, neg, ofBits, nanBits, toSigned}
 use lib.Ieee.Fits.{down-pos}
 use mir.Syntax.{Width, w64}
 use mir.Val.{SFits, toZ, ofZ}
-use mir.ValLaws.{toZ-ofZ}
-use Rattle.numbers.proofs.Pattern.{is-nan}
+use mir.ValLaws.{toZ-ofZ, toZ-pos}
+use Rattle.numbers.proofs.Pattern.{is-nan, below-nan}
+use Rattle.numbers.proofs.Shift.{Shifted, shift-is, shift-in}
+use Rattle.numbers.proofs.Round.{by-fields, at-field}
+
+-- -1 - k
+pub minus-one : (k : ℕ) → negsuc 0 -ℤ pos k ≡ negsuc k
+minus-one zero = refl
+minus-one (suc k) = ap (λ (n : ℕ). negsuc (suc n)) (zero-add k)
 
 pub nan-zero : (h : ℕ) (x : Float) → ne x x ≡ true → pos 0 ≡ toSigned h x
 unfolding toSigned
@@ -146,20 +154,83 @@ module _ (h : ℕ) (H : h ≤ 63) where
           go false true f g = tt
           go false false f g = eqb-false (9223372036854775808 * d) (a * 1) g (same (ltb-false (a * 1) (9223372036854775808 * d) f))
 
--- ---- with the bound K as the code has it
-module _ (h : ℕ) (K : Float) (k : K ≡ fin false 1 (pos h)) where
-  minus : neg K ≡ fin true 1 (pos h)
+-- ---- what the code of `cut` has for the ends: 2 ^ h as a float, and 2 ^ h - 1 as a whole number
+module _ (h : ℕ) (H : h ≤ 63) where
+  abbrev End : Float
+  End = ofBits binary32 ((127 + h) * 8388608)
+
+  pub unit-pos : 0 < Shifted h
+  unit-pos = shift-in h H .0
+
+  end-is : End ≡ fin false 1 (pos h)
+  unfolding odd trailingZeros
+  end-is =
+      ap (ofBits binary32) (no-more h)
+      ∙ by-fields (suc (126 + h)) 0 (below-256 h H) (lit< tt)
+      ∙ at-field binary32 (126 + h) 0 (below-255 h H)
+      ∙ ap (fin false 1) (ap (λ (b : Bool). cond b (pos (126 + h + 23 - 149)) (negsuc (149 - suc (126 + h + 23)))) (le-leb 149 (126 + h + 23) (enough h)) ∙ ap pos (left h))
+    where
+      no-more : (y : ℕ) → (127 + y) * 8388608 ≡ suc (126 + y) * 8388608 + 0
+      no-more y = omega arith
+
+      below-256 : (y : ℕ) → y ≤ 63 → suc (126 + y) < 256
+      below-256 y p = omega arith
+
+      below-255 : (y : ℕ) → y ≤ 63 → suc (126 + y) < 255
+      below-255 y p = omega arith
+
+      enough : (y : ℕ) → 149 ≤ 126 + y + 23
+      enough y = omega arith
+
+      left : (y : ℕ) → 126 + y + 23 - 149 ≡ y
+      left y = omega arith
+
+  minus-end : neg End ≡ fin true 1 (pos h)
   unfolding neg
-  minus = ap neg k
+  minus-end = ap neg end-is
 
-  pub at-high : (x : Float) → le K x ≡ true → pos (2 ^ h - 1) ≡ toSigned h x
-  at-high x t = high h x (ap (λ (y : Float). le y x) (sym k) ∙ t)
+  pub end-no-nan : T (not (nanBits binary32 ((127 + h) * 8388608)))
+  end-no-nan = below-nan _ (go h H)
+    where
+      go : (y : ℕ) → y ≤ 63 → (127 + y) * 8388608 ≤ 2139095040
+      go y p = omega arith
 
-  pub at-low : (x : Float) → lt x (neg K) ≡ true → negℤ (pos (2 ^ h)) ≡ toSigned h x
-  at-low x t = low h x (ap (λ (y : Float). lt x y) (sym minus) ∙ t)
+  pub most-fits : Shifted h - 1 < 9223372036854775808
+  most-fits = go (Shifted h) unit-pos (shift-in h H .1)
+    where
+      go : (u : ℕ) → 0 < u → u ≤ 9223372036854775808 → u - 1 < 9223372036854775808
+      go u p q = omega arith
 
-  pub at-between : h ≤ 63 → (x : Float) → ne x x ≡ false → le K x ≡ false → lt x (neg K) ≡ false → Cuts h x
-  at-between H x n t u = between h H x n (ap (λ (y : Float). le y x) (sym k) ∙ t) (ap (λ (y : Float). lt x y) (sym minus) ∙ u)
+  -- -1 - (2 ^ h - 1), as the machine has it
+  low-is : negsuc 0 -ℤ toZ w64 (Shifted h - 1) ≡ negsuc (Shifted h - 1)
+  low-is = ap (λ (z : ℤ). negsuc 0 -ℤ z) (toZ-pos w64 (Shifted h - 1) most-fits) ∙ minus-one (Shifted h - 1)
+
+  pub low-fits : SFits w64 (negsuc 0 -ℤ toZ w64 (Shifted h - 1))
+  low-fits = subst (λ (z : ℤ). SFits w64 z) (sym low-is) (record { sfits = most-fits })
+
+  pub at-high : (x : Float) → le End x ≡ true → toZ w64 (Shifted h - 1) ≡ toSigned h x
+  at-high x t = toZ-pos w64 (Shifted h - 1) most-fits ∙ ap (λ (u : ℕ). pos (u - 1)) (shift-is h H) ∙ high h x (ap (λ (y : Float). le y x) (sym end-is) ∙ t)
+
+  pub at-low : (x : Float) → lt x (neg End) ≡ true → toZ w64 (ofZ w64 (negsuc 0 -ℤ toZ w64 (Shifted h - 1))) ≡ toSigned h x
+  at-low x t =
+      toZ-ofZ w64 (negsuc 0 -ℤ toZ w64 (Shifted h - 1)) low-fits
+      ∙ low-is
+      ∙ ap (λ (u : ℕ). negsuc (u - 1)) (shift-is h H)
+      ∙ one-less (2 ^ h) (pow-pos h)
+      ∙ low h x (ap (λ (y : Float). lt x y) (sym minus-end) ∙ t)
+    where
+      one-less : (p : ℕ) → 0 < p → negsuc (p - 1) ≡ negℤ (pos p)
+      one-less zero q = absurd (no q)
+        where
+          no : 0 < 0 → ⊥
+          no r = omega arith
+      one-less (suc p) q = ap negsuc (same p)
+        where
+          same : (y : ℕ) → suc y - 1 ≡ y
+          same y = omega arith
+
+  pub at-between : (x : Float) → ne x x ≡ false → le End x ≡ false → lt x (neg End) ≡ false → Cuts h x
+  at-between x n t u = between h H x n (ap (λ (y : Float). le y x) (sym end-is) ∙ t) (ap (λ (y : Float). lt x y) (sym minus-end) ∙ u)
 
 -- ---- the i64 that was cut, cast to the width w of h bits and a sign
 module _ (w : Width) (y z : ℤ) (F : SFits w64 y) (e : y ≡ z) (G : SFits w z) where
