@@ -45,7 +45,7 @@ module _ (w raw : ℕ) (W : 0 < w) (H : w ≤ 62) where
   span-most : S ≤ 4611686018427387904
   span-most = subst (λ (s : ℕ). s ≤ 4611686018427387904) (sym (span-is w H)) (pow-mono H)
 
-  pub low-lt : low < S
+  low-lt : low < S
   low-lt = mod-lt raw span-pos
 
   pub low-le : low ≤ S - 1
@@ -72,20 +72,17 @@ module _ (w raw : ℕ) (W : 0 < w) (H : w ≤ 62) where
       under l s p q a b c = omega arith
 
   -- the upper half less 2 ^ w
-  rest-is : toZ w64 rest ≡ pos rest
-  rest-is = toZ-pos w64 rest (go low S low-lt span-most)
+  rest-lt : rest < 9223372036854775808
+  rest-lt = go low S low-lt span-most
     where
       go : (l s : ℕ) → l < s → s ≤ 4611686018427387904 → s - 1 - l < 9223372036854775808
       go l s a b = omega arith
 
   less-is : negsuc 0 -ℤ toZ w64 rest ≡ negsuc rest
-  less-is = ap (λ (z : ℤ). negsuc 0 -ℤ z) rest-is ∙ minus-one rest
+  less-is = ap (λ (z : ℤ). negsuc 0 -ℤ z) (toZ-pos w64 rest rest-lt) ∙ minus-one rest
 
   pub less-fits : SFits w64 (negsuc 0 -ℤ toZ w64 rest)
-  less-fits = subst (λ (z : ℤ). SFits w64 z) (sym less-is) (record { sfits = go low S low-lt span-most })
-    where
-      go : (l s : ℕ) → l < s → s ≤ 4611686018427387904 → s - 1 - l < 9223372036854775808
-      go l s a b = omega arith
+  less-fits = subst (λ (z : ℤ). SFits w64 z) (sym less-is) (record { sfits = rest-lt })
 
   pub less : S / 2 ≤ low → toZ w64 (ofZ w64 (negsuc 0 -ℤ toZ w64 rest)) ≡ twosComplement w raw
   less h =

@@ -44,21 +44,21 @@ ofBits-is : (b : ℕ) → ofBits binary32 b ≡ ofFields binary32 (leb 214748364
 unfolding ofBits
 ofBits-is b = refl
 
-f-lt : (x t : ℕ) → x < 256 → t < 8388608 → x * 8388608 + t < 2147483648
-f-lt x t h k = omega arith
+fields-below : (x t : ℕ) → x < 256 → t < 8388608 → x * 8388608 + t < 2147483648
+fields-below x t h k = omega arith
 
-f-x : (x t : ℕ) → x < 256 → t < 8388608 → (x * 8388608 + t) % 2147483648 / 8388608 ≡ x
-f-x x t h k = omega arith
+exponent-field : (x t : ℕ) → x < 256 → t < 8388608 → (x * 8388608 + t) % 2147483648 / 8388608 ≡ x
+exponent-field x t h k = omega arith
 
-f-t : (x t : ℕ) → t < 8388608 → (x * 8388608 + t) % 8388608 ≡ t
-f-t x t k = omega arith
+digit-field : (x t : ℕ) → t < 8388608 → (x * 8388608 + t) % 8388608 ≡ t
+digit-field x t k = omega arith
 
 pub by-fields : (x t : ℕ) → x < 256 → t < 8388608 → ofBits binary32 (x * 8388608 + t) ≡ ofFields binary32 false x t
 by-fields x t h k =
     ofBits-is (x * 8388608 + t)
-    ∙ ap (λ (s : Bool). ofFields binary32 s ((x * 8388608 + t) % 2147483648 / 8388608) ((x * 8388608 + t) % 8388608)) (lt-leb 2147483648 (x * 8388608 + t) (f-lt x t h k))
-    ∙ ap (λ (y : ℕ). ofFields binary32 false y ((x * 8388608 + t) % 8388608)) (f-x x t h k)
-    ∙ ap (λ (y : ℕ). ofFields binary32 false x y) (f-t x t k)
+    ∙ ap (λ (s : Bool). ofFields binary32 s ((x * 8388608 + t) % 2147483648 / 8388608) ((x * 8388608 + t) % 8388608)) (lt-leb 2147483648 (x * 8388608 + t) (fields-below x t h k))
+    ∙ ap (λ (y : ℕ). ofFields binary32 false y ((x * 8388608 + t) % 8388608)) (exponent-field x t h k)
+    ∙ ap (λ (y : ℕ). ofFields binary32 false x y) (digit-field x t k)
 
 pub at-field : (f : Format) (x t : ℕ) → suc x < ones f → ofFields f false (suc x) t ≡ odd (prec f) false (hid f + t) x (low f)
 unfolding ofFields
@@ -134,8 +134,8 @@ in-range q k a h = lt-of-lt-of-le (shl-lt 25 k (wide q a)) (pow-mono (most k h))
     most : (y : ℕ) → y ≤ 252 → 25 + y ≤ 277
     most y p = omega arith
 
-in-range' : (q k : ℕ) → q < 16777216 → k ≤ 253 → q * 2 ^ k < 2 ^ 277
-in-range' q k a h = lt-of-lt-of-le (shl-lt 24 k a) (pow-mono (most k h))
+in-range-last : (q k : ℕ) → q < 16777216 → k ≤ 253 → q * 2 ^ k < 2 ^ 277
+in-range-last q k a h = lt-of-lt-of-le (shl-lt 24 k a) (pow-mono (most k h))
   where
     most : (y : ℕ) → y ≤ 253 → 24 + y ≤ 277
     most y p = omega arith
@@ -143,14 +143,14 @@ in-range' q k a h = lt-of-lt-of-le (shl-lt 24 k a) (pow-mono (most k h))
 pub units-bits : (q k : ℕ) → 8388608 ≤ q → q ≤ 16777216 → k ≤ 252 → ofBits binary32 (k * 8388608 + q) ≡ units binary32 false q k
 units-bits q k a b h = elim (eq-or-lt-of-le b) [
   | inl e ↦ subst (λ (x : ℕ). ofBits binary32 (k * 8388608 + x) ≡ units binary32 false x k) (sym e) (carried k (low k h) ∙ sym (units-is 16777216 k (in-range 16777216 k (le-refl 16777216) h)))
-  | inr l ↦ all-digits q k a l (low' k h) ∙ sym (units-is q k (in-range q k b h))
+  | inr l ↦ all-digits q k a l (low-last k h) ∙ sym (units-is q k (in-range q k b h))
 ]
   where
     low : (y : ℕ) → y ≤ 252 → y < 253
     low y p = omega arith
 
-    low' : (y : ℕ) → y ≤ 252 → y < 254
-    low' y p = omega arith
+    low-last : (y : ℕ) → y ≤ 252 → y < 254
+    low-last y p = omega arith
 
 -- with the highest exponent, where 2 ^ 24 is past the largest value
 last-carried : ofBits binary32 (253 * 8388608 + 16777216) ≡ units binary32 false 16777216 253
@@ -161,7 +161,7 @@ pub units-bits-all : (q k : ℕ) → 8388608 ≤ q → q ≤ 16777216 → k ≤ 
 units-bits-all q k a b h = elim (eq-or-lt-of-le h) [
   | inl z ↦ subst (λ (x : ℕ). ofBits binary32 (x * 8388608 + q) ≡ units binary32 false q x) (sym z) (elim (eq-or-lt-of-le b) [
     | inl e ↦ subst (λ (x : ℕ). ofBits binary32 (253 * 8388608 + x) ≡ units binary32 false x 253) (sym e) last-carried
-    | inr l ↦ all-digits q 253 a l (lit< tt) ∙ sym (units-is q 253 (in-range' q 253 l (le-refl 253)))
+    | inr l ↦ all-digits q 253 a l (lit< tt) ∙ sym (units-is q 253 (in-range-last q 253 l (le-refl 253)))
   ])
   | inr l ↦ units-bits q k a b (le-of-suc-le-suc l)
 ]

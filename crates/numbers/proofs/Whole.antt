@@ -1,18 +1,17 @@
 -- `u64_to_f32`: the leading zeros give the exponent. Assumes nothing.
 use mathlib.Core.Path.{_≡_, refl, sym, ap, _∙_, subst}
-use mathlib.Core.Bool.{false, not}
+use mathlib.Core.Bool.{false}
 use Prim.Native.Nat.{ℕ, suc, _+_, _-_, _*_, _/_, _%_, _^_, _≤_, _<_}
 use native.Mathlib.Nat.{le-trans, le-of-eq, lt-of-lt-of-le, one-mul, mul-assoc, mul-pos, div-one, mul-one, mod-eq-of-lt, mul-le-mul-right, le-of-lt}
 use native.Mathlib.Omega.{arith}
-use lib.Dec.{T, lit<}
+use lib.Dec.{lit<}
 use lib.Pow.{pow-add, pow-pos, pow-mono, shl-lt}
 use lib.Count.{leadingZeros, leading-top}
-use lib.Ieee.{binary32, size, units, ofBits, ofInt, nanBits}
+use lib.Ieee.{binary32, size, units, ofBits, ofInt}
 use lib.Ieee.Fits.{round-is, core}
 use lib.Ieee.Nearest.{closest, closest-same}
 use lib.IntN.{pos}
 use Rattle.numbers.specs.Convert.{roundedQuotient}
-use Rattle.numbers.proofs.Pattern.{below-nan}
 use Rattle.numbers.proofs.Shift.{Shifted, shift-is, shift-in}
 use Rattle.numbers.proofs.Round.{size-is, units-bits, kept-hi, ofInt-bits}
 use Rattle.numbers.proofs.Quotient.{quotient-is, below}
@@ -119,12 +118,6 @@ module _ (n z : ℕ) (D : Digits n z) (Z : 40 ≤ z) where
   pub short-lt : n * 2 ^ s % 18446744073709551616 < 16777216
   short-lt = subst (λ (x : ℕ). x < 16777216) (sym shifted) to
 
-  pub short-no-nan : T (not (nanBits binary32 ((149 - s) * 8388608 + n * 2 ^ s % 18446744073709551616)))
-  short-no-nan = below-nan _ (go s (n * 2 ^ s % 18446744073709551616) short-lt)
-    where
-      go : (y x : ℕ) → x < 16777216 → (149 - y) * 8388608 + x ≤ 2139095040
-      go y x p = omega arith
-
   pub short-is : ofBits binary32 ((149 - s) * 8388608 + n * 2 ^ s % 18446744073709551616) ≡ ofInt binary32 (pos n)
   short-is = ap (λ (x : ℕ). ofBits binary32 ((149 - s) * 8388608 + x)) shifted ∙ short-bits n s few from to
 
@@ -153,15 +146,6 @@ module _ (n z r : ℕ) (D : Digits n z) (Z : z < 40) (e : r ≡ roundedQuotient 
 
   pub long-le : r ≤ 16777216
   long-le = subst (λ (x : ℕ). x ≤ 16777216) (sym is) (kept-hi n (40 - z) lo24 hi24)
-
-  pub long-lt : (149 + (40 - z)) * 8388608 + r < 2139095040
-  long-lt = go z r long-le
-    where
-      go : (y x : ℕ) → x ≤ 16777216 → (149 + (40 - y)) * 8388608 + x < 2139095040
-      go y x h = omega arith
-
-  pub long-no-nan : T (not (nanBits binary32 ((149 + (40 - z)) * 8388608 + r)))
-  long-no-nan = below-nan _ (le-of-lt long-lt)
 
   pub long-is : ofBits binary32 ((149 + (40 - z)) * 8388608 + r) ≡ ofInt binary32 (pos n)
   long-is = ap (λ (x : ℕ). ofBits binary32 ((149 + (40 - z)) * 8388608 + x)) is ∙ ofInt-bits n (40 - z) lo24 hi24 (room z)

@@ -7,7 +7,7 @@ use Rattle.numbers.proofs.narrow_pattern.Statement.{statement}
 use Rattle.numbers.proofs.narrow_pattern.Tie as tie
 
 returns : tie.Need-returns
-returns c = (over-b _ (c .before .pre) (c .if1 .taken), lit≤ tt)
+returns c = (over-b _ (c .before .pre) (omega arith), lit≤ tt)
 
 add-rounded-quotient : tie.Need-add-rounded-quotient
 add-rounded-quotient c = search needs
@@ -20,16 +20,16 @@ mul-result c = search needs
 
 add-result : tie.Need-add-result
 add-result c =
-    omega (arith, normal-pattern _ (c .before .before .before .pre) _ (c .rounded-quotient .ensures) (c .before .if2 .taken) (c .before .before .if1 .left))
+    omega (arith, normal-pattern _ (c .before .before .before .pre) _ (c .rounded-quotient .ensures) (omega arith) (omega arith))
 
 cast-result : tie.Need-cast-result
 cast-result c =
-    omega (arith, normal-pattern _ (c .before .before .before .pre) _ (c .rounded-quotient .ensures) (c .before .if2 .taken) (c .before .before .if1 .left))
+    omega (arith, normal-pattern _ (c .before .before .before .pre) _ (c .rounded-quotient .ensures) (omega arith) (omega arith))
 
 returns-2 : tie.Need-returns-2
 returns-2 c = (
-  normal-b _ (c .before .before .before .pre) _ (c .rounded-quotient .ensures) (c .before .if2 .taken) (c .before .before .if1 .left),
-  normal-pattern _ (c .before .before .before .pre) _ (c .rounded-quotient .ensures) (c .before .if2 .taken) (c .before .before .if1 .left),
+  normal-b _ (c .before .before .before .pre) _ (c .rounded-quotient .ensures) (omega arith) (omega arith),
+  normal-pattern _ (c .before .before .before .pre) _ (c .rounded-quotient .ensures) (omega arith) (omega arith),
 )
 
 add-rounded-quotient-2 : tie.Need-add-rounded-quotient-2
@@ -42,20 +42,20 @@ shl-rounded-quotient : tie.Need-shl-rounded-quotient
 shl-rounded-quotient c = search needs
 
 rounded-quotient-requires-2 : tie.Need-rounded-quotient-requires-2
-rounded-quotient-requires-2 c κs = unit-ok _ (c .before .before .before .pre) (c .if3 .taken)
+rounded-quotient-requires-2 c κs = unit-ok _ (c .before .before .before .pre) (omega arith)
 
 cast-result-2 : tie.Need-cast-result-2
 cast-result-2 c =
-    omega (arith, low-le _ (c .before .before .before .before .pre) _ (c .rounded-quotient2 .ensures) (c .before .if3 .taken) (c .before .before .if2 .left))
+    omega (arith, low-le _ (c .before .before .before .before .pre) _ (c .rounded-quotient2 .ensures) (omega arith) (omega arith))
 
 returns-3 : tie.Need-returns-3
 returns-3 c = (
-  low-b _ (c .before .before .before .before .pre) _ (c .rounded-quotient2 .ensures) (c .before .if3 .taken) (c .before .before .if2 .left),
-  omega (arith, low-le _ (c .before .before .before .before .pre) _ (c .rounded-quotient2 .ensures) (c .before .if3 .taken) (c .before .before .if2 .left)),
+  low-b _ (c .before .before .before .before .pre) _ (c .rounded-quotient2 .ensures) (omega arith) (omega arith),
+  omega (arith, low-le _ (c .before .before .before .before .pre) _ (c .rounded-quotient2 .ensures) (omega arith) (omega arith)),
 )
 
 returns-4 : tie.Need-returns-4
-returns-4 c = (tiny-b _ (c .before .before .before .pre) (c .if3 .left), omega arith)
+returns-4 c = (tiny-b _ (c .before .before .before .pre) (omega arith), omega arith)
 
 pub narrow-pattern-spec : {M : Type 1} → statement M
 narrow-pattern-spec =

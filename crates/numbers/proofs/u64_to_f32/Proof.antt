@@ -2,7 +2,8 @@
 use borrow.Author.Needs.{needs}
 use native.Mathlib.Omega.{arith}
 use lib.Count.{leadingZeros}
-use Rattle.numbers.proofs.Whole.{Digits, digits, zero-is, short-lt, short-no-nan, short-is, unit-ok, long-le, long-lt, long-no-nan, long-is}
+use Rattle.numbers.proofs.Whole.{Digits, digits, zero-is, short-lt, short-is, unit-ok, long-le, long-is}
+use Rattle.numbers.proofs.Pattern.{below-nan}
 use Rattle.numbers.proofs.u64_to_f32.Statement.{statement}
 use Rattle.numbers.proofs.u64_to_f32.Tie as tie
 
@@ -31,7 +32,7 @@ add-result : tie.Need-add-result
 add-result c = omega (arith, short-lt _ _ (known (c .before)) (c .if2 .taken))
 
 float-from-bits-result : tie.Need-float-from-bits-result
-float-from-bits-result c = short-no-nan _ _ (known (c .before)) (c .if2 .taken)
+float-from-bits-result c = below-nan _ (omega (arith, short-lt _ _ (known (c .before)) (c .if2 .taken)))
 
 returns-2 : tie.Need-returns-2
 returns-2 c = short-is _ _ (known (c .before)) (c .if2 .taken)
@@ -58,10 +59,10 @@ cast-result-3 : tie.Need-cast-result-3
 cast-result-3 c = omega (arith, long-le _ _ _ (known (c .before .before)) (c .before .if2 .left) (c .rounded-quotient .ensures))
 
 add-result-3 : tie.Need-add-result-3
-add-result-3 c = omega (arith, long-lt _ _ _ (known (c .before .before)) (c .before .if2 .left) (c .rounded-quotient .ensures))
+add-result-3 c = omega (arith, long-le _ _ _ (known (c .before .before)) (c .before .if2 .left) (c .rounded-quotient .ensures))
 
 float-from-bits-result-2 : tie.Need-float-from-bits-result-2
-float-from-bits-result-2 c = long-no-nan _ _ _ (known (c .before .before)) (c .before .if2 .left) (c .rounded-quotient .ensures)
+float-from-bits-result-2 c = below-nan _ (omega (arith, long-le _ _ _ (known (c .before .before)) (c .before .if2 .left) (c .rounded-quotient .ensures)))
 
 returns-3 : tie.Need-returns-3
 returns-3 c = long-is _ _ _ (known (c .before .before)) (c .before .if2 .left) (c .rounded-quotient .ensures)
