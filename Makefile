@@ -17,6 +17,7 @@ SANITIZED = -g -O1 -fsanitize=address,undefined -fno-sanitize-recover=all
 LIBRARIES = target/staticlib
 PW = include/pw.h $(LIBRARIES)/libpw.a
 LEAVES = host/leaves.h $(LIBRARIES)/libleaves.a
+PWSCRIPT = host/pwscript.c host/words.c host/words.h
 COMPILE = @mkdir -p $(@D) && echo "$(CC) $@" && $(CC) $(CFLAGS)
 INPUTS = $(filter %.c %.a,$^)
 
@@ -43,22 +44,22 @@ bench: build/bench build/pwscript
 clean:
 	rm -rf build target
 
-build/pwscript: host/pwscript.c $(PW) $(LEAVES)
+build/pwscript: $(PWSCRIPT) $(PW) $(LEAVES)
 	$(COMPILE) $(PLAIN) -o $@ $(INPUTS)
 
-build/sanitized/pwscript: host/pwscript.c $(PW) $(LEAVES)
+build/sanitized/pwscript: $(PWSCRIPT) $(PW) $(LEAVES)
 	$(COMPILE) $(SANITIZED) -o $@ $(INPUTS)
 
-build/test_pw: tests/test_pw.c $(PW)
+build/test_pw: tests/test_pw.c tests/bits.h tests/pages.h $(PW)
 	$(COMPILE) $(PLAIN) -o $@ $(INPUTS)
 
-build/sanitized/test_pw: tests/test_pw.c $(PW)
+build/sanitized/test_pw: tests/test_pw.c tests/bits.h tests/pages.h $(PW)
 	$(COMPILE) $(SANITIZED) -o $@ $(INPUTS)
 
-build/test_leaves: tests/test_leaves.c $(LEAVES)
+build/test_leaves: tests/test_leaves.c tests/bits.h tests/pages.h $(LEAVES)
 	$(COMPILE) $(PLAIN) -o $@ $(INPUTS) -lm
 
-build/sanitized/test_leaves: tests/test_leaves.c $(LEAVES)
+build/sanitized/test_leaves: tests/test_leaves.c tests/bits.h tests/pages.h $(LEAVES)
 	$(COMPILE) $(SANITIZED) -o $@ $(INPUTS) -lm
 
 build/bench: host/bench.c $(PW) $(LEAVES)

@@ -1,4 +1,4 @@
-/* bench: nanoseconds per call of pw_decode and of each leaf. */
+/* bench: nanoseconds per call of pw_decode, of pw_cmp_window and of the leaves that compute. */
 #define _POSIX_C_SOURCE 200809L
 #include "leaves.h"
 #include "pw.h"
@@ -43,6 +43,7 @@ int main(void)
         frames[k / PW_FRAME_LENGTH][k % PW_FRAME_LENGTH] = (uint8_t)(k * 2654435761u >> 24);
     BENCH("(loop alone)", float, some_float(k));
     BENCH("pw_decode", uint64_t, pw_decode(frames[k % 64], PW_FRAME_LENGTH).rms);
+    BENCH("pw_cmp_window", uint64_t, pw_cmp_window((float)(k % 4096) * 0x1p-10f - 2.0f, some_float(~k)).r21);
     BENCH("leaf_u64_to_f32", float, leaf_u64_to_f32(k * UINT64_C(0x9E3779B97F4A7C15)));
     BENCH("leaf_i64_to_f32", float, leaf_i64_to_f32((int64_t)(k * UINT64_C(0x9E3779B97F4A7C15))));
     BENCH("leaf_f32_to_i64", uint64_t, leaf_f32_to_i64(some_float(k)));

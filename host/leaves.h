@@ -8,6 +8,7 @@
 #define LEAVES_H
 
 #include <stdbool.h>
+#include <stddef.h>
 #include <stdint.h>
 
 /* A whole number to the nearest float, ties to even. */
@@ -47,5 +48,76 @@ float leaf_hypot(float a, float b);
 /* Whether the flags hold the AD1 bit (2); whether they hold both the RMS bit (4) and the LPF bit (3). */
 bool leaf_holds_ad1(uint8_t flags);
 bool leaf_holds_rms_lpf(uint8_t flags);
+
+/* The unit of current range k (0 A, 1 mA, 2 uA) and its amplifier's gain index (0 times ten, 1 times
+ * one). A range above 5 counts as 5. */
+struct leaf_iu_ir {
+    uint8_t iu;
+    uint8_t ir;
+};
+struct leaf_iu_ir leaf_iu_ir(uint8_t k);
+
+/* The place of current range k among six calibration words: iu * 2 + ir. */
+uint8_t leaf_cal_index(uint8_t k);
+
+/* The coupling that a number means: its low two bits, where 2 counts as 0 (0 AC+DC, 1 DC, 3 AC). */
+uint8_t leaf_coup_of(uint32_t c);
+
+/* The next coupling in the order DC, AC, AC+DC; DC after any other number. */
+uint8_t leaf_next_coupling(uint8_t c);
+
+/* What a meter is told of its hardware. Refusal 7 unless each of the six numbers is from 2^-20 to
+ * 2^20, ends allowed; else 0. */
+struct leaf_description {
+    float mv_div[2];
+    float shunt[3];
+    float over;
+    bool a_auto;
+};
+uint8_t leaf_description_refusal(struct leaf_description d);
+
+/* The calibration of the `count` words at `words`, which can be read and are not written, with their
+ * mark. Refusal 0; or 8 where they are not 73, with zeros and the mark off, and then no word is
+ * read. `words` must not be NULL, not even for count 0. */
+enum { LEAF_WORDS = 73 };
+struct leaf_calibration {
+    uint32_t words[LEAF_WORDS];
+    bool valid;
+};
+struct leaf_calibration_answer {
+    uint8_t refusal;
+    struct leaf_calibration calibration;
+};
+struct leaf_calibration_answer leaf_calibration_of(const uint32_t *words, size_t count, bool valid);
+
+/* The number in the word at a byte offset, the one of index offset / 4; or `otherwise` where the mark
+ * is off, the index is 73 or more, or the number is not finite or not below 1.0e6 in size. */
+float leaf_cal(struct leaf_calibration c, uint32_t offset, float otherwise);
+
+/* leaf_cal with 1.0 and with 0.0 for `otherwise`. */
+float leaf_factor(struct leaf_calibration c, uint32_t at);
+float leaf_offset(struct leaf_calibration c, uint32_t at);
+
+/* The V channel's gain by the factory's words, or 1.0 where that is not within 0.9 to 1.1. Range 0:
+ * factor 04h * factor 38h / factor 08h; range r: factor 34h + 4 r. A range above 3 counts as 3. */
+float leaf_v_gain_factory(struct leaf_calibration c, uint8_t vr);
+
+/* The gain in force: the one stored for the range where it is above zero, else the factory's. */
+struct leaf_gains {
+    float vgain[4];
+};
+float leaf_v_gain(struct leaf_calibration c, struct leaf_gains g, uint8_t vr);
+
+/* The source's tables by index: vr is a V range, ik a current range, iu a current unit, ci a place as
+ * of leaf_cal_index. An index past the end is held to the last entry; only the phase goes round. */
+float leaf_v_lim(uint8_t vr);
+float leaf_i_lim(uint8_t ik);
+float leaf_shunt_ohm(uint8_t iu);
+float leaf_kv(uint8_t vr);
+float leaf_k_acv(uint8_t vr);
+float leaf_dcv_negk(uint8_t vr);
+float leaf_acv_win(uint8_t vr);
+float leaf_aca_win(uint8_t ci);
+uint8_t leaf_cycle(uint8_t phase);
 
 #endif

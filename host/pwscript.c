@@ -4,7 +4,7 @@
  * --echo each line is written before its answer. Comments (#) and empty lines
  * give no answer. Every line that is not understood, or not served yet,
  * answers `?` and changes nothing. All figures come from libpw.a and
- * libleaves.a; this file only reads and writes text.
+ * libleaves.a; this file and words.c only read and write text.
  *
  * Lines may be of any length, may hold any byte, and the last one needs no
  * line feed. Words are split as by the oracle; only white space outside ASCII
@@ -13,110 +13,22 @@
 #define _POSIX_C_SOURCE 200809L
 #include "leaves.h"
 #include "pw.h"
+#include "words.h"
 
-#include <inttypes.h>
-#include <math.h>
 #include <stdbool.h>
 #include <stdio.h>
 #include <stdlib.h>
 #include <string.h>
 
-/* A word of a line: no terminating zero, and zeros may be in it. */
-struct word {
-    const char *at;
-    size_t length;
-};
+/* The meter in force. Before one is made, words of zeros with the mark off are
+ * read, as in the oracle. */
+static struct {
+    bool made;
+    struct leaf_calibration calibration;
+    struct leaf_gains gains; /* 0.0 where none is stored */
+} meter;
 
-static bool word_is(struct word w, const char *text)
-{
-    return w.length == strlen(text) && memcmp(w.at, text, w.length) == 0;
-}
-
-/* ---- reading: false means not understood ---- */
-
-static bool read_hex_digit(char c, unsigned *digit)
-{
-    if (c >= '0' && c <= '9')
-        *digit = (unsigned)(c - '0');
-    else if (c >= 'a' && c <= 'f')
-        *digit = (unsigned)(c - 'a') + 10;
-    else if (c >= 'A' && c <= 'F')
-        *digit = (unsigned)(c - 'A') + 10;
-    else
-        return false;
-    return true;
-}
-
-/* Exactly `count` bytes of two hex digits each. */
-static bool read_bytes(struct word w, uint8_t *bytes, size_t count)
-{
-    if (w.length != 2 * count)
-        return false;
-    for (size_t k = 0; k < count; k++) {
-        unsigned high, low;
-        if (!read_hex_digit(w.at[2 * k], &high) || !read_hex_digit(w.at[2 * k + 1], &low))
-            return false;
-        bytes[k] = (uint8_t)(high << 4 | low);
-    }
-    return true;
-}
-
-/* The bits of a float as 8 hex digits, or `nan`. */
-static bool read_float(struct word w, float *x)
-{
-    uint8_t b[4] = {0x7F, 0xC0, 0x00, 0x00};
-    if (!word_is(w, "nan") && !read_bytes(w, b, 4))
-        return false;
-    uint32_t bits = (uint32_t)b[0] << 24 | (uint32_t)b[1] << 16 | (uint32_t)b[2] << 8 | b[3];
-    memcpy(x, &bits, sizeof *x);
-    return true;
-}
-
-/* One or more decimal digits, not above `most`. */
-static bool read_digits(struct word w, uint64_t most, uint64_t *n)
-{
-    uint64_t sum = 0;
-    for (size_t k = 0; k < w.length; k++) {
-        if (w.at[k] < '0' || w.at[k] > '9')
-            return false;
-        uint64_t digit = (uint64_t)(w.at[k] - '0');
-        if (sum > (most - digit) / 10)
-            return false;
-        sum = 10 * sum + digit;
-    }
-    *n = sum;
-    return w.length > 0;
-}
-
-/* Takes the sign c off the front of the word, if it is there. */
-static bool take_sign(struct word *w, char c)
-{
-    if (w->length == 0 || w->at[0] != c)
-        return false;
-    w->at++;
-    w->length--;
-    return true;
-}
-
-/* Rust's parse of a u64: a plus sign is allowed, a minus sign is not. */
-static bool read_u64(struct word w, uint64_t *n)
-{
-    take_sign(&w, '+');
-    return read_digits(w, UINT64_MAX, n);
-}
-
-/* Rust's parse of an i64: a sign of either kind is allowed. */
-static bool read_i64(struct word w, int64_t *n)
-{
-    bool minus = take_sign(&w, '-');
-    if (!minus)
-        take_sign(&w, '+');
-    uint64_t size;
-    if (!read_digits(w, (uint64_t)INT64_MAX + (minus ? 1 : 0), &size))
-        return false;
-    *n = !minus ? (int64_t)size : size == 0 ? 0 : -(int64_t)(size - 1) - 1;
-    return true;
-}
+/* ---- functions: `f NAME ARGUMENTS` ---- */
 
 /* The codes of a frame with the `count` bytes of w from byte `first` on. The
  * other bytes of the frame are not zero, so that the place matters. */
@@ -129,27 +41,6 @@ static bool read_codes(struct word w, size_t first, size_t count, struct pw_code
     *codes = pw_decode(frame, sizeof frame);
     return codes->refusal == PW_DONE;
 }
-
-/* ---- writing: always true, so that a handler ends with it ---- */
-
-static bool write_float(float x)
-{
-    uint32_t bits;
-    memcpy(&bits, &x, sizeof bits);
-    if (isnan(x))
-        printf("= nan\n");
-    else
-        printf("= %08" PRIx32 "\n", bits);
-    return true;
-}
-
-static bool write_int(int64_t n)
-{
-    printf("= %" PRId64 "\n", n);
-    return true;
-}
-
-/* ---- functions: `f NAME ARGUMENTS` ---- */
 
 static bool f_ad1(const struct word *argument)
 {
@@ -217,6 +108,65 @@ static bool f_hypot(const struct word *argument)
     return read_float(argument[0], &a) && read_float(argument[1], &b) && write_float(leaf_hypot(a, b));
 }
 
+static bool f_iu_ir(const struct word *argument)
+{
+    uint8_t k;
+    if (!read_u8(argument[0], &k))
+        return false;
+    struct leaf_iu_ir unit = leaf_iu_ir(k);
+    return write_pair(unit.iu, unit.ir);
+}
+
+static bool f_cmp_window(const struct word *argument)
+{
+    float c, a;
+    if (!read_float(argument[0], &c) || !read_float(argument[1], &a))
+        return false;
+    struct pw_window window = pw_cmp_window(c, a);
+    return write_found(window.found, window.r21);
+}
+
+static bool f_coup_of(const struct word *argument)
+{
+    uint32_t c;
+    return read_u32(argument[0], &c) && write_int(leaf_coup_of(c));
+}
+
+static bool f_next_coupling(const struct word *argument)
+{
+    uint8_t c;
+    return read_u8(argument[0], &c) && write_int(leaf_next_coupling(c));
+}
+
+static bool f_r36(const struct word *argument)
+{
+    int8_t steps;
+    return read_i8(argument[0], &steps) && write_int(pw_r36_of(steps));
+}
+
+/* At an offset that is not a multiple of 4, or past the last word, the oracle
+ * panics. Here the word that the byte lies in is read, or the default. */
+static bool f_cal(const struct word *argument)
+{
+    uint32_t offset;
+    float otherwise;
+    return read_u32(argument[0], &offset) && read_float(argument[1], &otherwise)
+           && write_float(leaf_cal(meter.calibration, offset, otherwise));
+}
+
+static bool f_v_gain_factory(const struct word *argument)
+{
+    uint8_t vr;
+    return read_u8(argument[0], &vr) && write_float(leaf_v_gain_factory(meter.calibration, vr));
+}
+
+/* Not before a meter is made. */
+static bool f_v_gain(const struct word *argument)
+{
+    uint8_t vr;
+    return meter.made && read_u8(argument[0], &vr) && write_float(leaf_v_gain(meter.calibration, meter.gains, vr));
+}
+
 /* The served functions: name, number of arguments, and the handler, which
  * writes the answer, or writes nothing and returns false. */
 static const struct {
@@ -235,6 +185,14 @@ static const struct {
     {"max0", 1, f_max0},
     {"sqrt", 1, f_sqrt},
     {"hypot", 2, f_hypot},
+    {"iu_ir", 1, f_iu_ir},
+    {"cmp_window", 2, f_cmp_window},
+    {"coup_of", 1, f_coup_of},
+    {"next_coupling", 1, f_next_coupling},
+    {"r36", 1, f_r36},
+    {"cal", 2, f_cal},
+    {"v_gain_factory", 1, f_v_gain_factory},
+    {"v_gain", 1, f_v_gain},
 };
 
 /* ---- commands: the first word of a line ---- */
@@ -247,6 +205,40 @@ static bool function(const struct word *argument, size_t count)
     return false;
 }
 
+/* MV0 MV1 SH0 SH1 SH2 OVER A_AUTO */
+static bool read_description(const struct word *argument, struct leaf_description *d)
+{
+    return read_float(argument[0], &d->mv_div[0]) && read_float(argument[1], &d->mv_div[1])
+           && read_float(argument[2], &d->shunt[0]) && read_float(argument[3], &d->shunt[1])
+           && read_float(argument[4], &d->shunt[2]) && read_float(argument[5], &d->over)
+           && read_bool(argument[6], &d->a_auto);
+}
+
+/* The refusal of the description, else of the words, else a new meter. */
+static uint8_t make_meter(struct leaf_description d, const struct calibration_words *words, bool valid)
+{
+    uint8_t refusal = leaf_description_refusal(d);
+    if (refusal != PW_DONE)
+        return refusal;
+    struct leaf_calibration_answer answer = leaf_calibration_of(words->at, words->count, valid);
+    if (answer.refusal != PW_DONE)
+        return answer.refusal;
+    meter.made = true;
+    meter.calibration = answer.calibration;
+    meter.gains = (struct leaf_gains){{0.0f, 0.0f, 0.0f, 0.0f}};
+    return PW_DONE;
+}
+
+/* The description, then VALID WORDS. A refused one keeps the former meter. */
+static bool meter_command(const struct word *argument, size_t count)
+{
+    struct leaf_description d;
+    struct calibration_words words;
+    bool valid;
+    return count == 9 && read_description(argument, &d) && read_bool(argument[7], &valid)
+           && read_calibration_words(argument[8], &words) && write_refusal(make_meter(d, &words, valid));
+}
+
 /* The served commands: name, and the handler, which is given the words after
  * the name. It writes the answer, or writes and changes nothing and returns
  * false. */
@@ -255,6 +247,7 @@ static const struct {
     bool (*handler)(const struct word *argument, size_t count);
 } commands[] = {
     {"f", function},
+    {"meter", meter_command},
 };
 
 static bool command(const struct word *words, size_t count)
@@ -266,39 +259,6 @@ static bool command(const struct word *words, size_t count)
 }
 
 /* ---- lines ---- */
-
-/* The white space between words: ASCII's, without the vertical tab. */
-static bool is_space(char c)
-{
-    return c == ' ' || c == '\t' || c == '\n' || c == '\f' || c == '\r';
-}
-
-static struct word trim(struct word w)
-{
-    while (w.length > 0 && (is_space(w.at[0]) || w.at[0] == '\v')) {
-        w.at++;
-        w.length--;
-    }
-    while (w.length > 0 && (is_space(w.at[w.length - 1]) || w.at[w.length - 1] == '\v'))
-        w.length--;
-    return w;
-}
-
-/* The number of words in the line; the first `most` of them are stored. */
-static size_t split(struct word line, struct word *words, size_t most)
-{
-    size_t count = 0;
-    for (size_t k = 0; k < line.length;) {
-        size_t start = k;
-        while (k < line.length && !is_space(line.at[k]))
-            k++;
-        if (k > start && count++ < most)
-            words[count - 1] = (struct word){line.at + start, k - start};
-        while (k < line.length && is_space(line.at[k]))
-            k++;
-    }
-    return count;
-}
 
 /* No line of the protocol has more words: `f vals` with its 12 arguments. */
 enum { MOST_WORDS = 14 };

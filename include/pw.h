@@ -4,11 +4,12 @@
  * and writes target/staticlib/libpw.a, for x86-64 with the System V calling
  * convention. It allocates nothing, keeps nothing between calls, and needs no
  * other library. Every function answers for every argument, but for what its
- * comment says of pointers, and may be called from any thread.
+ * comment says of pointers and of bools, and may be called from any thread.
  */
 #ifndef PW_H
 #define PW_H
 
+#include <stdbool.h>
 #include <stddef.h>
 #include <stdint.h>
 
@@ -21,10 +22,11 @@ extern "C" {
 #define PW_DONE 0        /* not refused */
 #define PW_OFF 1         /* frame, job start or phase start while not on */
 #define PW_BUSY 2        /* job start or re-apply while a job runs */
-#define PW_METHOD 3      /* job or phase start that the method does not allow */
+#define PW_METHOD 3      /* job start in the alternating method, phase start in
+                          * it or in DC coupling */
 #define PW_FRAME 4       /* frame not of PW_FRAME_LENGTH bytes */
 #define PW_LATE 5        /* time of 2^48 ms or more */
-#define PW_FULL 6        /* an energy or a counted time would not fit */
+#define PW_FULL 6        /* an energy, its sum or a counted time does not fit */
 #define PW_DESCRIPTION 7 /* a number of the description is out of bounds */
 #define PW_WORDS 8       /* not 73 calibration words */
 
@@ -54,6 +56,66 @@ struct pw_codes {
  *          read.
  * Leaves:  the bytes are never written. */
 struct pw_codes pw_decode(const uint8_t *bytes, size_t length);
+
+/* A window of the chip's comparator, or none. `found` has to be looked at: 0 is
+ * a code of the chip's too. */
+struct pw_window {
+    bool found;
+    uint8_t r21; /* upper threshold's code * 16 + lower one's; 0 for none */
+};
+
+/* The comparator's window for an input whose middle lies at `c` volts and
+ * which swings by `a` volts around it.
+ *
+ * Takes:   any two floats: the DC part of the input and the RMS of its AC
+ *          part, both in volts at the comparator, behind the divider.
+ * Returns: none found exactly when no upper threshold clears the middle by
+ *          0.006 and lies below the middle plus 0.9 of the swing, or no lower
+ *          one does so downward; otherwise the nearest threshold that does on
+ *          each side. All of it is in binary32, rounded at each operation: a
+ *          threshold of exactly c + 0.006 clears, one of exactly c + 0.9 * a
+ *          does not lie below. None is found where `c` or `a` is a NaN, and
+ *          where `c` is infinite. */
+struct pw_window pw_cmp_window(float c, float a);
+
+/* The kinds of row that the host writes to the chip, registers R20 to R35. */
+#define PW_ROW_POWER 0        /* the simultaneous method's */
+#define PW_ROW_DC 1           /* current on AD1 and voltage on LPF at once */
+#define PW_ROW_ALT_V 2        /* the alternating method's, voltage */
+#define PW_ROW_ALT_I 3        /* the alternating method's, current */
+#define PW_ROW_DC_REFERENCE 4 /* the gain job's reference, a DC voltage */
+#define PW_ROW_AC_REFERENCE 5 /* the gain job's reference, an AC voltage */
+
+/* The jobs. */
+#define PW_JOB_NONE 0
+#define PW_JOB_ZERO 1
+#define PW_JOB_GAIN 2
+
+/* Which row the host writes when the meter gives it a mark.
+ *
+ * A trap: only in the power row does the meter say what stands in some of the
+ * registers: its `r20` in R20 (with bit 1 set besides), its `r21` in R21, its
+ * `stat` in R34, and pw_r36_of its phase steps in R36. Each of the other rows
+ * brings its own R20, R21 and R34, which count, and R36 is 0 with it; the host
+ * must not write `stat` or `r21` over them, neither with the row nor after a
+ * frame.
+ *
+ * Takes:   the method, `alt` for alternating; `dc`, whether DC coupling is in
+ *          force; the job and its step; `job_dc`, whether the gain job's
+ *          reference is a DC voltage; the phase. Every byte is answered for,
+ *          but a bool must be 0 or 1, as C's is.
+ * Returns: in an odd step of the gain job the reference of the kind that
+ *          `job_dc` tells; else PW_ROW_DC for `dc` while no job runs, and
+ *          in steps 6 to 11 of the zero job whatever `dc` is; else, for
+ *          `alt`, PW_ROW_ALT_V in even phases and PW_ROW_ALT_I in odd ones;
+ *          else PW_ROW_POWER. Any other `job` counts as one that runs and
+ *          has none of these steps. */
+uint8_t pw_row_kind(bool alt, bool dc, uint8_t job, uint8_t step, bool job_dc,
+                    uint8_t phase);
+
+/* R36 of a signed number of phase steps: their size, at most 127, and bit 7
+ * where they are above zero. */
+uint8_t pw_r36_of(int8_t steps);
 
 #ifdef __cplusplus
 }

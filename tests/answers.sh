@@ -1,7 +1,7 @@
 # shellcheck shell=bash
 # Sourced by the scripts of this folder and by host/bench.sh, from the repository's root.
-# tests/served holds the names of the functions that pwscript serves, and nothing else says which
-# lines are compared.
+# tests/served holds the names of the functions that pwscript serves. The lines of these functions are
+# compared, and the `meter` lines between them, from which some of them read; nothing else says which.
 
 oracle_manifest=../shared/oracle/Cargo.toml
 oracle_folder=build/oracle/release
@@ -18,12 +18,21 @@ build_oracle() {
         || fail "the oracle does not build"
 }
 
-# served_lines SEED LINES: that many lines of served functions, from `pwgen funcs SEED`.
-# It is asked for four times as many lines, since it draws other functions as well.
+# served_lines SEED LINES: that many lines, from `pwgen funcs SEED`: those of served functions, and every
+# `meter` line between them, which counts as a line. The first line makes a plain meter, since the one
+# that pwgen starts with may be refused, and `f v_gain` asks for a meter.
+# It is asked for twice as many lines, since it draws other functions as well.
 served_lines() {
-    "$oracle_folder/pwgen" funcs "$1" $((4 * $2 + 1000)) | awk -v lines="$2" '
+    "$oracle_folder/pwgen" funcs "$1" $((2 * $2 + 1000)) | awk -v lines="$2" '
+        function take(line) { if (n < lines) { print line; n++ } }
+        BEGIN { take("meter 3f800000 3f800000 3f800000 3f800000 3f800000 3f800000 0 0 z73") }
         NR == FNR { served[$1]; next }
-        $1 == "f" && ($2 in served) && n < lines { print; n++ }' tests/served -
+        $1 == "meter" || $1 == "f" && ($2 in served) { take($0) }' tests/served -
+}
+
+# meters QUESTIONS: how many of them are `meter` lines.
+meters() {
+    grep -a -c '^meter ' "$1"
 }
 
 # questions SCRIPT: its lines without comments and empty lines.

@@ -1,6 +1,6 @@
 #!/bin/bash
-# tests/compare.sh SEED LINES [PROGRAM]: LINES random lines of served functions, answered by the
-# published Rust (../shared/oracle, built here) and by PROGRAM (build/pwscript); byte for byte the same?
+# tests/compare.sh SEED LINES [PROGRAM]: LINES random lines of served functions and of meters made, answered
+# by the published Rust (../shared/oracle, built here) and by PROGRAM (build/pwscript); byte for byte the same?
 set -u -o pipefail
 cd "$(dirname "$0")/.." || exit 1
 . tests/answers.sh
@@ -16,4 +16,4 @@ served_lines "$seed" "$lines" > "$work/questions" || fail "pwgen failed"
 "$oracle_folder/pworacle" < "$work/questions" > "$work/oracle" || fail "the oracle failed"
 "$program" < "$work/questions" > "$work/answers" || fail "$program failed"
 same_answers "$work/questions" "$work/oracle" "$work/answers" || fail "seed $seed: $program and the oracle differ"
-echo "compare: seed $seed, $lines lines, no difference ($("$oracle_folder/pworacle" --source))"
+echo "compare: seed $seed, $lines lines, $(meters "$work/questions") of them meters, no difference ($("$oracle_folder/pworacle" --source))"

@@ -24,7 +24,7 @@ record() {
 
 served_lines "$seed" "$lines" > "$work/lines" || fail "pwgen failed"
 [ "$(wc -l < "$work/lines")" -eq "$lines" ] || fail "pwgen did not give $lines lines of served functions"
-origin="tests/record.sh $seed $lines: pwgen funcs, seed $seed, $lines lines of the functions in tests/served"
+origin="tests/record.sh $seed $lines: pwgen funcs, seed $seed, $lines lines of the functions in tests/served and of meters"
 { echo "# $origin"; echo "# answered by $source"; cat "$work/lines"; } > tests/recorded/functions.script
 record functions tests/recorded/functions.script "$origin"
 record limits tests/limits.script "tests/record.sh: tests/limits.script, $(questions tests/limits.script | wc -l) lines"

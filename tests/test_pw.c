@@ -1,28 +1,31 @@
 /* test_pw: the interface pw.h, as a C program sees it.
  *
  * Each frame lies at the end or at the start of a page that cannot be written,
- * with pages that cannot be read on both sides; a frame of a wrong length lies
- * where nothing can be read. So a byte read or written that pw.h does not
- * allow is a fault that ends this program: a sanitizer would not see it, since
- * libpw.a is not compiled with one.
+ * with pages that cannot be read on both sides (pages.h); a frame of a wrong
+ * length lies where nothing can be read.
  */
 #define _DEFAULT_SOURCE
+#include "bits.h"
+#include "pages.h"
 #include "pw.h"
 
+#include <float.h>
 #include <inttypes.h>
+#include <math.h>
 #include <stdbool.h>
 #include <stddef.h>
 #include <stdio.h>
-#include <stdlib.h>
 #include <string.h>
-#include <sys/mman.h>
-#include <unistd.h>
 
 _Static_assert(offsetof(struct pw_codes, refusal) == 0, "refusal");
 _Static_assert(offsetof(struct pw_codes, ad1) == 4, "ad1");
 _Static_assert(offsetof(struct pw_codes, lpf) == 8, "lpf");
 _Static_assert(offsetof(struct pw_codes, rms) == 16, "rms");
 _Static_assert(sizeof(struct pw_codes) == 24, "pw_codes");
+_Static_assert(offsetof(struct pw_window, found) == 0, "found");
+_Static_assert(offsetof(struct pw_window, r21) == 1, "r21");
+_Static_assert(sizeof(struct pw_window) == 2, "pw_window");
+_Static_assert(FLT_EVAL_METHOD == 0, "each operation is rounded to its type");
 
 /* ---- counting ---- */
 
@@ -38,7 +41,7 @@ static bool check(bool holds, const char *what)
     return false;
 }
 
-/* ---- what is expected, in arithmetic of whole numbers ---- */
+/* ---- what is expected of a frame, in arithmetic of whole numbers ---- */
 
 /* Little-endian, the remainder by 2^width, and the upper half of these are
  * the negative ones. */
@@ -67,33 +70,7 @@ static void check_codes(const uint8_t *frame, const char *what)
     printf(": refusal %d ad1 %" PRId32 " lpf %" PRId32 " rms %" PRId64 "\n", c.refusal, c.ad1, c.lpf, c.rms);
 }
 
-/* ---- guarded pages ---- */
-
-struct pages {
-    size_t size;
-    uint8_t *frame_page; /* readable; the pages before and after are not */
-};
-
-static struct pages guarded_pages(void)
-{
-    size_t size = (size_t)sysconf(_SC_PAGESIZE);
-    void *all = mmap(NULL, 3 * size, PROT_NONE, MAP_PRIVATE | MAP_ANONYMOUS, -1, 0);
-    if (all == MAP_FAILED) {
-        perror("test_pw: mmap");
-        exit(1);
-    }
-    return (struct pages){size, (uint8_t *)all + size};
-}
-
-static void protect(struct pages p, int protection)
-{
-    if (mprotect(p.frame_page, p.size, protection) != 0) {
-        perror("test_pw: mprotect");
-        exit(1);
-    }
-}
-
-/* ---- the tests ---- */
+/* ---- frames ---- */
 
 /* Document 01's rows marked P that speak of codes. */
 static void test_rows(void)
@@ -140,17 +117,17 @@ static void test_lengths(struct pages p)
     for (size_t length = 0; length <= 64; length++)
         if (length != 14) {
             check_refused(bytes, length);
-            check_refused(p.frame_page, length);
+            check_refused(p.page, length);
         }
     for (size_t k = 0; k < sizeof large / sizeof large[0]; k++)
-        check_refused(p.frame_page, large[k]);
+        check_refused(p.page, large[k]);
 }
 
 /* Frames at both ends of a page that can only be read: no neighbour of theirs
  * is touched, and no byte is written. */
 static void test_guarded(struct pages p)
 {
-    uint8_t *const ends[] = {p.frame_page, p.frame_page + p.size - 14};
+    uint8_t *const ends[] = {p.page, p.page + p.size - 14};
     for (size_t e = 0; e < 2; e++)
         for (int value = 0; value < 256; value++) {
             uint8_t before[14];
@@ -210,21 +187,194 @@ static void test_rms(void)
                 }
 }
 
-/* Four million frames of random bytes, always the same ones (splitmix64). */
+/* Four million frames of random bytes, always the same ones. */
 static void test_random(void)
 {
     uint64_t state = 1;
     for (int n = 0; n < 4000000; n++) {
-        uint64_t words[2];
+        uint64_t words[2] = {next(&state), next(&state)};
         uint8_t frame[14];
-        for (int k = 0; k < 2; k++) {
-            uint64_t z = state += UINT64_C(0x9E3779B97F4A7C15);
-            z = (z ^ z >> 30) * UINT64_C(0xBF58476D1CE4E5B9);
-            z = (z ^ z >> 27) * UINT64_C(0x94D049BB133111EB);
-            words[k] = z ^ z >> 31;
-        }
         memcpy(frame, words, sizeof frame);
         check_codes(frame, "a random frame");
+    }
+}
+
+/* ---- the comparator's window ---- */
+
+/* The upper thresholds by rising level. The lower ones are their mirror image:
+ * the code that stands for v above stands for -v below. */
+enum { LEVELS = 12 };
+static const struct {
+    uint8_t code;
+    float level;
+} upper[LEVELS] = {
+    {0x6, -0.4f},   {0x5, -0.2f},   {0xF, -0.0208f}, {0xE, 0.0f},    {0xD, 0.0208f}, {0xC, 0.0417f},
+    {0xB, 0.0625f}, {0xA, 0.1042f}, {0x9, 0.2083f},  {0x8, 0.4167f}, {0x1, 0.8f},    {0x0, 1.6f},
+};
+
+/* Document 01's rule: of all pairs of an upper and a lower entry of which each
+ * clears the middle by 0.006 and lies within 0.9 of the swing, the nearest. */
+static struct pw_window expected_window(float c, float a)
+{
+    struct pw_window best = {false, 0};
+    float high = 0.0f, low = 0.0f;
+    for (int i = 0; i < LEVELS; i++)
+        for (int j = 0; j < LEVELS; j++) {
+            float h = upper[i].level, l = -upper[j].level;
+            bool serves = h >= c + 0.006f && h < c + 0.9f * a && l <= c - 0.006f && l > c - 0.9f * a;
+            if (!serves || (best.found && !(h <= high && l >= low)))
+                continue;
+            best = (struct pw_window){true, (uint8_t)(upper[i].code * 16 + upper[j].code)};
+            high = h;
+            low = l;
+        }
+    return best;
+}
+
+static void check_window(float c, float a)
+{
+    struct pw_window expected = expected_window(c, a), got = pw_cmp_window(c, a);
+    if (check(got.found == expected.found && got.r21 == expected.r21, "a window") || failures > 20)
+        return;
+    printf("  middle %08" PRIx32 " swing %08" PRIx32 ": %d %02x, expected %d %02x\n", bits32(c), bits32(a), got.found,
+           got.r21, expected.found, expected.r21);
+}
+
+/* Document 01's rows, and none where there can be none. */
+static void test_window_rows(void)
+{
+    struct pw_window w = pw_cmp_window(0.0f, 0.05f);
+    check(w.found && w.r21 == 0xDD, "window 0, 0.05");
+    w = pw_cmp_window(0.0f, 0.02f);
+    check(!w.found && w.r21 == 0, "window 0, 0.02");
+    w = pw_cmp_window(1.0f, 1.0f);
+    check(w.found && w.r21 == 0x06, "window 1, 1");
+    static const float no_middle[] = {NAN, -NAN, INFINITY, -INFINITY, FLT_MAX, -FLT_MAX, 1.6f, -1.6f};
+    for (size_t k = 0; k < sizeof no_middle / sizeof no_middle[0]; k++)
+        check(!pw_cmp_window(no_middle[k], INFINITY).found, "no window around that middle");
+    static const float no_swing[] = {NAN, -NAN, 0.0f, -0.0f, -0.05f, -INFINITY, FLT_TRUE_MIN, -FLT_TRUE_MIN, FLT_MIN};
+    for (size_t k = 0; k < sizeof no_swing / sizeof no_swing[0]; k++)
+        for (int i = 0; i < LEVELS; i++)
+            check(!pw_cmp_window(upper[i].level, no_swing[k]).found, "no window within that swing");
+    w = pw_cmp_window(0.0f, INFINITY);
+    check(w.found && w.r21 == 0xDD, "window 0, infinite");
+}
+
+/* Every pair of: both zeros, both infinities, NaNs, the ends of the subnormals
+ * and of the numbers, and each level, alone and with 0.006 added or taken, with
+ * the neighbours of each. */
+static void test_window_edges(void)
+{
+    static const uint32_t special[] = {0x00000000, 0x00000001, 0x00400000, 0x007FFFFF, 0x00800000, 0x3F800000,
+                                       0x7F7FFFFF, 0x7F800000, 0x7F800001, 0x7FC00000, 0x7FFFFFFF};
+    static uint32_t edges[600];
+    size_t count = 0;
+    for (size_t k = 0; k < sizeof special / sizeof special[0]; k++)
+        edges[count++] = special[k];
+    for (int i = 0; i < LEVELS; i++)
+        for (int move = -1; move <= 1; move++)
+            for (uint32_t near = 0; near < 7; near++)
+                edges[count++] = (bits32(upper[i].level + (float)move * 0.006f) & 0x7FFFFFFF) + near - 3;
+    for (size_t k = 0, half = count; k < half; k++)
+        edges[count++] = edges[k] ^ 0x80000000;
+    for (size_t i = 0; i < count; i++)
+        for (size_t j = 0; j < count; j++)
+            check_window(float_of(edges[i]), float_of(edges[j]));
+}
+
+/* x moved by up to four places among the floats. */
+static float beside(float x, uint64_t r)
+{
+    return float_of(bits32(x) + (uint32_t)(r & 0x7) - 3);
+}
+
+/* A level of either table. */
+static float some_level(uint64_t r)
+{
+    return upper[(r & 0xFF) % LEVELS].level * (r & 0x100 ? 1.0f : -1.0f);
+}
+
+/* Any bits; from -2 to 2; or beside a level, or 0.006 away from one. */
+static float some_middle(uint64_t r)
+{
+    if (r >> 62 == 0)
+        return float_of((uint32_t)r);
+    if (r >> 62 == 1)
+        return (float)(int32_t)(uint32_t)r * 0x1p-30f;
+    return beside(some_level(r) + (float)((int)(r >> 16 & 0xFF) % 3 - 1) * 0.006f, r >> 24);
+}
+
+/* Any bits; from 0 to 2; or beside one that just reaches a level from c. */
+static float some_swing(float c, uint64_t r)
+{
+    if (r >> 62 == 0)
+        return float_of((uint32_t)r);
+    if (r >> 62 == 1)
+        return (float)(uint32_t)r * 0x1p-31f;
+    return beside(fabsf(some_level(r) - c) / 0.9f, r >> 24);
+}
+
+/* Four million pairs, always the same ones. */
+static void test_window_random(void)
+{
+    uint64_t state = 2;
+    for (int n = 0; n < 4000000; n++) {
+        float c = some_middle(next(&state));
+        check_window(c, some_swing(c, next(&state)));
+    }
+}
+
+/* ---- the row ---- */
+
+/* The choice as the source makes it: `vref` the gain job's reference, `dcm` the
+ * DC row, `stock` a row that is none of the power path's own. R34 is `stat`
+ * exactly in the rows that are neither stock nor DC. */
+static void check_row(bool alt, bool dc, uint8_t job, uint8_t step, bool job_dc, uint8_t phase)
+{
+    bool vref = job == 2 && (step & 1) == 1;
+    bool dcm = (dc && job == 0) || (job == 1 && step >= 6 && step < 12);
+    bool stock = (alt && !dcm) || vref;
+    int expected = vref ? (job_dc ? 4 : 5) : dcm ? 1 : alt ? ((phase & 1) == 0 ? 2 : 3) : 0;
+    uint8_t got = pw_row_kind(alt, dc, job, step, job_dc, phase);
+    bool holds = got == expected && (got == PW_ROW_POWER) == (!stock && !dcm);
+    if (check(holds, "the row") || failures > 20)
+        return;
+    printf("  alt %d dc %d job %d step %d job_dc %d phase %d: %d, expected %d\n", alt, dc, job, step, job_dc, phase, got,
+           expected);
+}
+
+/* Every job and every step, in every phase and four that are none. */
+static void test_row_kind(void)
+{
+    static const uint8_t phases[] = {0, 1, 2, 3, 4, 127, 128, 255};
+    for (int job = 0; job < 256; job++)
+        for (int step = 0; step < 256; step++)
+            for (size_t p = 0; p < sizeof phases; p++)
+                for (int marks = 0; marks < 8; marks++)
+                    check_row(marks & 1, marks & 2, (uint8_t)job, (uint8_t)step, marks & 4, phases[p]);
+}
+
+static void test_row_numbers(void)
+{
+    check(pw_row_kind(false, false, PW_JOB_NONE, 0, false, 0) == PW_ROW_POWER, "the power row");
+    check(pw_row_kind(true, true, PW_JOB_NONE, 0, true, 1) == PW_ROW_DC, "the DC row");
+    check(pw_row_kind(true, false, PW_JOB_NONE, 0, false, 0) == PW_ROW_ALT_V, "the V row");
+    check(pw_row_kind(true, false, PW_JOB_NONE, 0, false, 1) == PW_ROW_ALT_I, "the I row");
+    check(pw_row_kind(false, true, PW_JOB_GAIN, 1, true, 0) == PW_ROW_DC_REFERENCE, "the DC reference");
+    check(pw_row_kind(false, true, PW_JOB_GAIN, 3, false, 0) == PW_ROW_AC_REFERENCE, "the AC reference");
+    check(pw_row_kind(false, true, PW_JOB_ZERO, 5, false, 0) == PW_ROW_POWER, "zero step 5");
+    check(pw_row_kind(false, false, PW_JOB_ZERO, 6, false, 0) == PW_ROW_DC, "zero step 6");
+    check(pw_row_kind(false, false, PW_JOB_ZERO, 11, false, 0) == PW_ROW_DC, "zero step 11");
+    check(pw_row_kind(false, true, PW_JOB_ZERO, 12, false, 0) == PW_ROW_POWER, "zero step 12");
+}
+
+/* Every number of steps: the size in the low seven bits, -128 as -127, and the
+ * high bit for what is above zero. */
+static void test_r36(void)
+{
+    for (int steps = -128; steps <= 127; steps++) {
+        int size = steps == -128 ? 127 : steps < 0 ? -steps : steps;
+        check(pw_r36_of((int8_t)steps) == (steps > 0 ? 0x80 | size : size), "R36");
     }
 }
 
@@ -240,6 +390,12 @@ int main(void)
     test_three_bytes(6, "LPF");
     test_rms();
     test_random();
+    test_window_rows();
+    test_window_edges();
+    test_window_random();
+    test_row_numbers();
+    test_row_kind();
+    test_r36();
     printf("test_pw: %" PRIu64 " checks, %" PRIu64 " failed\n", checks, failures);
     return failures == 0 ? 0 : 1;
 }

@@ -1,6 +1,6 @@
 #!/bin/bash
 # tests/test_pwscript.sh PROGRAM: how pwscript reads lines. A bad line answers `?` and changes nothing:
-# the good lines around it answer as they do alone.
+# the good lines around it answer as they do alone, and the meter made before it is kept.
 set -u -o pipefail
 cd "$(dirname "$0")/.." || exit 1
 . tests/answers.sh
@@ -36,24 +36,37 @@ says() {
 ad1='f ad1 000080\n' ad1_is='= -8388608\n'
 root='f sqrt 40400000\n' root_is='= 3fddb3d8\n'
 
-good() { says "$root$1\n$ad1" "$root_is$2\n$ad1_is"; }
-bad() { good "$1" '?'; }
-silent() { says "$root$1\n$ad1" "$root_is$ad1_is"; }
+# tiled TEXT COUNT: TEXT over and over, COUNT characters in all.
+tiled() { yes "$1" | tr -d '\n' | head -c "$2"; }
 
-# The lines that are replayed are those of the served functions, of each and of no other.
+# A meter whose words are all 1.1: the gain shows that it is still the one in force.
+one=3f800000
+six="$one $one $one $one $one $one"
+words73=$(tiled 3f8ccccd 584)
+meter="meter $six 0 1 $words73\n" made='0 mark=- used=0 reading=0\n'
+gain='f v_gain 1\n' gain_is='= 3f8ccccd\n'
+
+before=$meter$root before_is=$made$root_is after=$ad1$gain after_is=$ad1_is$gain_is
+good() { says "$before$1\n$after" "$before_is$2\n$after_is"; }
+bad() { good "$1" '?'; }
+silent() { says "$before$1\n$after" "$before_is$after_is"; }
+
+# The lines that are replayed are those of the served functions, of each and of no other, and meters.
 [ -s tests/served ] || fail "tests/served is missing or empty"
 for script in tests/limits.script tests/recorded/functions.script; do
-    cmp -s <(sort tests/served) <(questions "$script" | cut -d ' ' -f 2 | sort -u)
+    cmp -s <(sort tests/served) <(questions "$script" | grep -a -v '^meter ' | sed -n 's/^f \([^ ]*\) .*/\1/; p' | sort -u)
     count "$script has the functions of tests/served" $?
+    [ "$(meters "$script")" -gt 0 ]
+    count "$script has meters" $?
 done
 
 # Every served function answers a figure, and `?` with an argument too few, too many or malformed.
 while read -r name; do
-    grep "^f $name " tests/limits.script > "$work/in"
+    grep -e "^f $name " -e '^meter ' tests/limits.script > "$work/in"
     "$program" < "$work/in" > "$work/out"
     same_answers "$work/in" "$work/out" "$work/out" > /dev/null
     count "$name is served" $?
-    line=$(head -n 1 "$work/in")
+    line=$(grep -m 1 "^f $name " "$work/in")
     bad "${line% *}"
     bad "$line 00000000"
     bad "$line nan"
@@ -72,12 +85,11 @@ done < tests/served
 # Lines of the protocol that are not served yet: a name that comes to tests/served leaves this list.
 for line in \
     'f ema 3f800000 3f000000 3f800000 00000000' 'f ema_rel 3e800000 3f800000 3f800000 3f800000' \
-    'f totals 3f800000 3f800000 3f800000 3f800000 3f800000 3f800000' 'f iu_ir 5' 'f cmp_window 00000000 3d4ccccd' \
+    'f totals 3f800000 3f800000 3f800000 3f800000 3f800000 3f800000' \
     'f energy_format 3f000000 0' 'f p_format 3f800000 3f800000 0' 'f cal_outcome 42fefae1' \
-    'f acc 0 00000000 3a800000' 'f acc_wh 5 00000000' 'f no_neg_zero 80000000 3' 'f r36 -5' 'f coup_of 3' \
-    'f next_coupling 3' 'f coup_name 3' 'f cal 4 3f800000' 'f v_gain_factory 2' 'f v_gain 2' 'f bt_mode 0 3' \
+    'f acc 0 00000000 3a800000' 'f acc_wh 5 00000000' 'f no_neg_zero 80000000 3' 'f coup_name 3' 'f bt_mode 0 3' \
     'f vals 1 1 0 0 0 0 3f800000 3f800000 3f800000 3f800000 3f800000 3f800000' 'f zero' 'f ring_text' 'f knobs' \
-    'meter 3f800000 3f800000 3f800000 3f800000 3f800000 3f800000 0 0 z73' 'on 0' 'off 0' 'method 0 1' \
+    'on 0' 'off 0' 'method 0 1' \
     'coupling 0 1' 'zero 0' 'gain 0' 'reapply 0' 'ranges 0 k a' 'phase' 'ereset' 'run 1' \
     'set 1 3c23d70a 3f000000 423e0000 40c00000 30 0' 'frame 0 1c 0000000000000000000000000000' 'dump' 'dump on' 'hash'; do
     bad "$line"
@@ -99,6 +111,27 @@ for number in 18446744073709551616 18446744073709551617 36893488147419103232 184
     bad "f u2f $number"
 done
 
+# Of a byte, of eight bits with a sign, of 32 bits.
+for name in iu_ir next_coupling v_gain_factory v_gain; do
+    for number in 256 -1 -0 +256 99999999999999999999 + +-1 1.0 0x1 a ''; do bad "f $name $number"; done
+done
+good 'f iu_ir +255' '= 0 1'
+good 'f iu_ir 000000000000000000000000255' '= 0 1'
+good 'f r36 +127' '= 255'
+good 'f r36 -128' '= 127'
+for number in 128 -129 255 -256 18446744073709551488 - + +-1 -+1 --1 1.0 0x1 a ''; do bad "f r36 $number"; done
+good 'f coup_of +4294967295' '= 3'
+for number in 4294967296 4294967297 -1 -0 - + 18446744073709551617 0x1 a ''; do
+    bad "f coup_of $number"
+    bad "f cal $number 00000000"
+done
+
+# Offsets at which the oracle panics: the word that the byte lies in, or the default past the last one.
+good 'f cal 291 00000000' '= 3f8ccccd'
+good 'f cal 5 00000000' '= 3f8ccccd'
+good 'f cal 292 40000000' '= 40000000'
+good 'f cal 4294967295 40000000' '= 40000000'
+
 # Floats: exactly 8 hex digits of either case, or nan.
 good 'f sqrt 40C00000' '= 401cc470'
 good 'f sqrt 40c00000' '= 401cc470'
@@ -108,6 +141,57 @@ for float in 0 4040000 404000000 0x404000 4040000g +4040000 -4040000 NaN NAN nan
     bad "f sqrt $float"
     bad "f max $float 00000000"
     bad "f max 00000000 $float"
+done
+
+# Meters. Before one is made, and after a refused one, there is no gain in force.
+says "$gain" '?\n'
+says "meter $six 0 1 z72\n$gain" '8 mark=- used=0 reading=0\n?\n'
+says "meter nan ${six#* } 0 1 z73\n$gain" '7 mark=- used=0 reading=0\n?\n'
+says "$meter$gain" "$made$gain_is"
+says "meter $six 1 0 z73\n$gain" "$made= 3f800000\n"
+says "meter $six 0 1 z73\nf cal 4 3f800000\n" "$made= 00000000\n"
+
+# A refused one keeps the former; 7 comes before 8. A number of words that no memory holds is not 73
+# either: the oracle ends there, at the room that it asks for.
+seven='7 mark=- used=0 reading=0' eight='8 mark=- used=0 reading=0'
+good "meter nan ${six#* } 0 1 z73" "$seven"
+good "meter nan ${six#* } 0 1 z72" "$seven"
+for number in 0 1 72 74 100 4294967369 18446744073709551615 +72 000000000000000000000000000074; do
+    good "meter $six 0 1 z$number" "$eight"
+    good "meter ${six% *} 00000000 0 1 z$number" "$seven"
+done
+good "meter $six 0 1 -" "$eight"
+good "meter $six 0 1 3f800000" "$eight"
+good "meter $six 0 1 ${words73#????????}" "$eight"
+good "meter $six 0 1 $words73$one" "$eight"
+
+# One that is not understood: words of the line too few and too many, floats, marks, counts, digits.
+bad meter
+bad "meter $six"
+bad "meter $six 0"
+bad "meter $six 0 1"
+bad "meter ${six#* } 0 1 z73"
+bad "meter $six $one 0 1 z73"
+bad "meter $six 0 1 z73 z73"
+bad "meter $six 0 1 z73 0 0 0 0 0"
+bad "meter $six 0 1 z 73"
+bad "meters $six 0 1 z73"
+bad "Meter $six 0 1 z73"
+bad "f meter $six 0 1 z73"
+for float in 0 3f80000 3f8000000 3f80000g +f800000 NaN nan0 1.0 -; do
+    bad "meter $float ${six#* } 0 1 z73"
+    bad "meter ${six% *} $float 0 1 z73"
+    bad "meter ${six% *} $float 0 1 z72"
+done
+for mark in 2 -1 +1 00 01 10 true yes 0x1 - '1\0000'; do
+    bad "meter $six $mark 1 z73"
+    bad "meter $six 0 $mark z73"
+done
+for list in z zx z-1 z-0 z+ z73x z7.3e1 z0x49 zz73 Z73 z18446744073709551616 z18446744073709551689 z99999999999999999999 \
+    nan none 0 73 -- 3f80000 3f8000000 3f80000g "${words73%?}" "${words73}0" "${words73%?}g" "g${words73#?}" "+${words73#?}" \
+    "$words73$words73${words73%?}g" "0x$words73" 'z73\0000'; do
+    bad "meter $six 0 1 $list"
+    bad "meter ${six% *} nan 0 1 $list"
 done
 
 # Bad lines of other kinds.
@@ -140,12 +224,11 @@ says "${ad1}# comment" "$ad1_is"
 says "${ad1} " "$ad1_is"
 says "$ad1\0000" "${ad1_is}?\n"
 
-# Long lines. tiled TEXT COUNT: TEXT over and over, COUNT characters in all. long WHAT EXPECTED reads
-# the line (not from a pipe, which would count the check in a process of its own).
-tiled() { yes "$1" | tr -d '\n' | head -c "$2"; }
+# Long lines. long WHAT EXPECTED reads the line (not from a pipe, which would count the check in a
+# process of its own).
 long() {
-    { printf '%b' "$root"; cat; printf '\n%b' "$ad1"; } > "$work/in"
-    answers "$1" "$root_is$2$ad1_is"
+    { printf '%b' "$before"; cat; printf '\n%b' "$after"; } > "$work/in"
+    answers "$1" "$before_is$2$after_is"
 }
 long 'five with three million zeros before it' '= 40a00000\n' < <(printf 'f i2f '; tiled 0 3000000; printf 5)
 long 'three million digits' '?\n' < <(printf 'f i2f '; tiled 9 3000000)
@@ -156,6 +239,10 @@ long 'three million spaces between' '= 401cc470\n' < <(printf 'f'; tiled ' ' 300
 long 'a third of a million arguments' '?\n' < <(printf 'f max 00000000'; tiled ' 3f800000' 2999997)
 long 'a long comment' '' < <(printf '#'; tiled ' f sqrt 40400000' 3000000)
 long 'a long word' '?\n' < <(printf 'f sqrt 40400000'; tiled z 3000000)
+long 'a meter of 375,000 words' "$eight\n" < <(printf 'meter %s 0 1 ' "$six"; tiled 3f8ccccd 3000000)
+long 'a meter of 375,000 words with a bad digit' '?\n' < <(printf 'meter %s 0 1 ' "$six"; tiled 3f8ccccd 2999999; printf x)
+long 'a meter of 73 words with three million zeros before it' "$made$made" \
+    < <(printf 'meter %s 0 1 z' "$six"; tiled 0 3000000; printf '73\n%b' "${meter%\\n}")
 long 'three million zero bytes' '?\n' < <(head -c 3000000 /dev/zero)
 for words in 12 13 14 15 16 17; do
     long "f max with $words arguments" '?\n' < <(printf 'f max'; tiled ' nan' $((4 * words)))

@@ -9,6 +9,8 @@ ghost use Rattle.numbers.specs.Convert.{narrow};
 ghost use Rattle.numbers.specs.Root.{sqrtOf, hypotOf};
 ghost use Rattle.codes.specs.Flags.{holdsAd1, holdsRmsLpf};
 
+pub mod tabled;
+
 #[no_mangle]
 pub extern "C" fn leaf_u64_to_f32(n: u64) -> f32
     ensures { λ r. ⌜ r ≡ ofInt binary32 (pos n) ⌝ }

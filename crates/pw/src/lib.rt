@@ -1,9 +1,13 @@
 // The C interface, built as libpw.a: include/pw.h describes each function.
 ghost use mathlib.Core.Path.{_≡_};
 ghost use Rattle.codes.specs.Frame.{decoded};
-ghost use Rattle.pw.specs.Host.{frameCodes};
+ghost use Rattle.tables.specs.Window.{cmpWindow};
+ghost use Rattle.tables.specs.Ranges.{r36Of};
+ghost use Rattle.tables.specs.Row.{rowKind, rowNumber};
+ghost use Rattle.pw.specs.Host.{frameCodes, hostWindow};
 use codes::Decoded;
 use refusals::Refusal;
+use tables::window::Window;
 
 // `struct pw_codes`: the refusal's number, and the codes of the frame, 0 where it is refused.
 #[repr(C)]
@@ -36,4 +40,45 @@ pub extern "C" fn pw_decode(bytes: &[u8]) -> FrameCodes
             }
         }
     }
+}
+
+// `struct pw_window`: whether a window was found, and R21, 0 where none was.
+#[repr(C)]
+pub struct HostWindow {
+    pub found: bool,
+    pub r21: u8,
+}
+
+// The comparator's window for a middle of c volts and a swing of a volts.
+#[no_mangle]
+pub extern "C" fn pw_cmp_window(c: f32, a: f32) -> HostWindow
+    ensures { λ r. ⌜ r ≡ hostWindow (cmpWindow c a) ⌝ }
+{
+    let window = tables::window::cmp_window(c, a);
+    match window {
+        Window::NoWindow => HostWindow {
+            found: false,
+            r21: 0,
+        },
+        Window::R21(code) => HostWindow {
+            found: true,
+            r21: code,
+        },
+    }
+}
+
+// The number of the kind of row that the host writes at a mark.
+#[no_mangle]
+pub extern "C" fn pw_row_kind(alt: bool, dc: bool, job: u8, step: u8, job_dc: bool, phase: u8) -> u8
+    ensures { λ r. ⌜ r ≡ rowNumber (rowKind alt dc job step «job_dc» phase) ⌝ }
+{
+    tables::row::row_number(tables::row::row_kind(alt, dc, job, step, job_dc, phase))
+}
+
+// R36 of a signed number of phase steps.
+#[no_mangle]
+pub extern "C" fn pw_r36_of(steps: i8) -> u8
+    ensures { λ r. ⌜ r ≡ r36Of steps ⌝ }
+{
+    tables::ranges::r36_of(steps)
 }

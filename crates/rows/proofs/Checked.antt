@@ -2,9 +2,13 @@
 use mathlib.Core.Path.{_≡_, refl}
 use mathlib.Core.Bool.{true}
 use lib.ListN.{length}
+use lib.Ieee.{add, sum, sub, neg, mul, lt, le, eq, ofBits, round}
 use Rattle.codes.specs.Frame.{littleEndian, twosComplement, decoded}
+use Rattle.tables.specs.Bounds.{atMost}
+use Rattle.tables.specs.Ranges.{iuIr}
+use Rattle.tables.specs.Window.{codes, levels, away, clears, nearer, picked, walk, inside, joined, cmpWindow}
 use Rattle.rows.specs.Rows.{all, rows}
 
-pub checked : (all rows ≡ true) × (length rows ≡ 6)
-unfolding rows decoded littleEndian twosComplement
+pub checked : (all rows ≡ true) × (length rows ≡ 10)
+unfolding rows decoded littleEndian twosComplement atMost iuIr codes levels away clears nearer picked walk inside joined cmpWindow add sum sub neg mul lt le eq ofBits round
 checked = (refl, refl)

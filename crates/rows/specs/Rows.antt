@@ -1,4 +1,4 @@
--- Document 01's table "Frames and figures on each side": its rows marked P, so far those that speak of codes, each a test of the definition that the contracts cite.
+-- Document 01's table "Frames and figures on each side": its rows marked P, so far those that speak of codes, units and windows, each a test of the definition that the contracts cite.
 -- One list for all modules, checked as a whole in proofs/Checked.antt.
 use mathlib.Core.Bool.{Bool, true, false, _&&_}
 use mathlib.Core.List.{List, [], _∷_, _++_}
@@ -8,6 +8,11 @@ use lib.IntN.{ℤ, pos, negsuc}
 use Rattle.codes.specs.declared.Decoded.{Decoded}
 use Rattle.codes.specs.declared.Decoded.the-variants.{Taken, Refused}
 use Rattle.codes.specs.Frame.{decoded}
+use Rattle.tables.specs.Decimal.{decimal}
+use Rattle.tables.specs.Ranges.{iuIr}
+use Rattle.tables.specs.declared.window.Window.{Window}
+use Rattle.tables.specs.declared.window.Window.the-variants.{NoWindow, R21}
+use Rattle.tables.specs.Window.{cmpWindow}
 
 -- `negsuc n` is -(n + 1)
 abbrev sameInt : ℤ → ℤ → Bool
@@ -40,6 +45,19 @@ three = 0x11 ∷ 0x22 ∷ 0x33 ∷ []
 abbrev five : List ℕ
 five = 0x11 ∷ 0x22 ∷ 0x33 ∷ 0x44 ∷ 0x55 ∷ []
 
+-- `iu_ir` gives this unit and gain index
+abbrev isUnit : ℕ → ℕ → ℕ → Bool
+isUnit k u r = eqb (iuIr k .iu) u && eqb (iuIr k .ir) r
+
+-- a window of this code, and none
+abbrev isR21 : ℕ → Window → Bool
+isR21 n NoWindow = false
+isR21 n (R21 code) = eqb code n
+
+abbrev isNone : Window → Bool
+isNone NoWindow = true
+isNone (R21 code) = false
+
 unfoldable pub rows : List Bool
 rows =
     hasLpf (pos 262143) (decoded (frame three (0xff ∷ 0xff ∷ 0x03 ∷ []) five))
@@ -48,6 +66,10 @@ rows =
     ∷ hasAd1 (negsuc 8388607) (decoded (frame (0x00 ∷ 0x00 ∷ 0x80 ∷ []) three five))
     ∷ hasRms (pos 137438953471) (decoded (frame three three (0xff ∷ 0xff ∷ 0xff ∷ 0xff ∷ 0x1f ∷ [])))
     ∷ hasRms (negsuc 137438953471) (decoded (frame three three (0x00 ∷ 0x00 ∷ 0x00 ∷ 0x00 ∷ 0x20 ∷ [])))
+    ∷ (isUnit 0 2 0 && isUnit 5 0 1 && isUnit 200 0 1)
+    ∷ isR21 0xdd (cmpWindow (decimal 0 0) (decimal 5 2))
+    ∷ isNone (cmpWindow (decimal 0 0) (decimal 2 2))
+    ∷ isR21 0x06 (cmpWindow (decimal 1 0) (decimal 1 0))
     ∷ []
 
 abbrev pub all : List Bool → Bool

@@ -1,6 +1,9 @@
 // Runs rows of document 01 and other figures from outside through the functions, and compares. It
 // writes the number of each row that differs, and at the end how many agreed and how many differed.
 use codes::Decoded;
+use refusals::Refusal;
+use tables::description::Description;
+use tables::window::Window;
 
 struct Score {
     agree: u64,
@@ -141,11 +144,78 @@ fn max_rows(s: Score) -> Score {
     row(s, 34, has_bits(numbers::max(-0.0, 0.0), 0))
 }
 
+// Whether current range k has this unit and gain index.
+fn unit_is(k: u8, iu: u8, ir: u8) -> bool {
+    let u = tables::ranges::iu_ir(k);
+    if u.iu != iu {
+        return false;
+    }
+    u.ir == ir
+}
+
+// Whether the window of c and a has this code.
+fn window_is(c: f32, a: f32, code: u8) -> bool {
+    let window = tables::window::cmp_window(c, a);
+    match window {
+        Window::NoWindow => false,
+        Window::R21(r21) => r21 == code,
+    }
+}
+
+// Whether c and a have no window.
+fn no_window(c: f32, a: f32) -> bool {
+    let window = tables::window::cmp_window(c, a);
+    match window {
+        Window::NoWindow => true,
+        Window::R21(_) => false,
+    }
+}
+
+// Whether a description with this over ratio, and 1.0 for the other five numbers, is refused.
+fn refused(over: f32) -> bool {
+    let answer = tables::description::description_refusal(Description {
+        mv_div: [1.0, 1.0],
+        shunt: [1.0, 1.0, 1.0],
+        over,
+        a_auto: false,
+    });
+    match answer {
+        Refusal::Done => false,
+        _ => true,
+    }
+}
+
+// Rows 41 to 48: document 01, `iu_ir` and the three windows; a middle or a swing that is a NaN.
+fn window_rows(s: Score) -> Score {
+    let nan = 0.0 / 0.0;
+    let mut s = s;
+    s = row(s, 41, unit_is(0, 2, 0));
+    s = row(s, 42, unit_is(5, 0, 1));
+    s = row(s, 43, unit_is(200, 0, 1));
+    s = row(s, 44, window_is(0.0, 0.05, 0xdd));
+    s = row(s, 45, no_window(0.0, 0.02));
+    s = row(s, 46, window_is(1.0, 1.0, 0x06));
+    s = row(s, 47, no_window(nan, 1.0));
+    row(s, 48, no_window(0.0, nan))
+}
+
+// Rows 51 to 55: document 01, "outside 2^-20 to 2^20, ends allowed": the ends, their neighbours
+// outside, a NaN.
+fn description_rows(s: Score) -> Score {
+    let mut s = s;
+    s = row(s, 51, !refused(f32::from_bits(0x3580_0000)));
+    s = row(s, 52, refused(f32::from_bits(0x357f_ffff)));
+    s = row(s, 53, !refused(f32::from_bits(0x4980_0000)));
+    s = row(s, 54, refused(f32::from_bits(0x4980_0001)));
+    row(s, 55, refused(0.0 / 0.0))
+}
+
 fn main() {
     let s = max_rows(root_rows(length_rows(code_rows(Score {
         agree: 0,
         differ: 0,
     }))));
+    let s = description_rows(window_rows(s));
     io::print_decimal(1, s.agree);
     io::write_all(1, b" rows agree, ");
     io::print_decimal(1, s.differ);

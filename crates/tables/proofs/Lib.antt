@@ -1,0 +1,13 @@
+pub mod Both
+pub mod Held
+pub mod Steps
+pub mod Every
+pub mod Copy
+pub mod Words
+pub mod Gains
+pub mod Rowed
+pub mod Walk
+pub mod WindowRule
+pub mod Offsets
+pub mod Nearest
+pub mod NoNumber

@@ -1,0 +1,12 @@
+pub mod Decimal
+pub mod Bounds
+pub mod Constants
+pub mod Decided
+pub mod Ranges
+pub mod Row
+pub mod Description
+pub mod Calibration
+pub mod Gain
+pub mod Window
+pub mod Rule
+pub mod Offsets

@@ -1,0 +1,68 @@
+/* words.h: the words of a line of the script protocol, read and written. */
+#ifndef WORDS_H
+#define WORDS_H
+
+#include "leaves.h"
+
+#include <stdbool.h>
+#include <stddef.h>
+#include <stdint.h>
+
+/* A word of a line, or a line: no terminating zero, and zeros may be in it. */
+struct word {
+    const char *at;
+    size_t length;
+};
+
+/* ---- words ---- */
+
+bool word_is(struct word w, const char *text);
+
+/* The line without the white space at its ends. */
+struct word trim(struct word line);
+
+/* The number of words in the line; the first `most` of them are stored. */
+size_t split(struct word line, struct word *words, size_t most);
+
+/* ---- reading: false means not understood ---- */
+
+/* Exactly `count` bytes of two hex digits each. */
+bool read_bytes(struct word w, uint8_t *bytes, size_t count);
+
+/* The bits of a float as 8 hex digits, or `nan`. */
+bool read_float(struct word w, float *x);
+
+/* 0 or 1. */
+bool read_bool(struct word w, bool *yes);
+
+/* Rust's parse of a whole number: decimal digits, as many as one likes, in the
+ * type's range. A plus sign is allowed, a minus sign only for signed types. */
+bool read_u8(struct word w, uint8_t *n);
+bool read_u32(struct word w, uint32_t *n);
+bool read_u64(struct word w, uint64_t *n);
+bool read_i8(struct word w, int8_t *n);
+bool read_i64(struct word w, int64_t *n);
+
+/* Calibration words. Of more than a calibration has only one more is kept, and
+ * `count` is then that many: enough to know that they are too many. */
+struct calibration_words {
+    uint32_t at[LEAF_WORDS + 1];
+    size_t count;
+};
+
+/* 8 hex digits for each word, run together; or zN for N zeros; or - for none. */
+bool read_calibration_words(struct word w, struct calibration_words *words);
+
+/* ---- writing: always true, so that a handler ends with it ---- */
+
+bool write_float(float x);
+bool write_int(int64_t n);
+bool write_pair(uint8_t a, uint8_t b);
+
+/* Two hex digits, or `none` where nothing was found. */
+bool write_found(bool found, uint8_t code);
+
+/* The answer to a call that gives no mark, used no frame and has no reading. */
+bool write_refusal(uint8_t refusal);
+
+#endif

@@ -1,0 +1,81 @@
+#!/bin/bash
+# tests/constants.sh: the constants of crates/tables are spelled as in the published Rust: those of
+# constants.rt under the same name, and of window.rt the comparator's two tables, whose pairs are two
+# arrays here, and M. White space, underscores in numbers and the case of their letters do not count.
+# It only reads the published text, ../shared/docs/src.
+set -u -o pipefail
+cd "$(dirname "$0")/.." || exit 1
+. tests/answers.sh
+
+published=../shared/docs/src/firmware/src/powermeter.rs
+constants=crates/tables/src/constants.rt
+window=crates/tables/src/window.rt
+for file in "$published" "$constants" "$window"; do [ -f "$file" ] || fail "$file is not there"; done
+
+# The one name that the published text does not have: there its number, 450, has no name.
+own_name=VCAL_DC_SETTLE_MS
+
+# declared FILE: a line `NAME VALUE` for each constant of FILE, the value without white space, a number in
+# it in small letters and without underscores. Comments are left out; a value may go over several lines.
+declared() {
+    awk '
+        function spelled(value,    out, word) {
+            gsub(/[ \t]/, "", value)
+            sub(/,\]$/, "]", value)
+            while (match(value, /[A-Za-z0-9_]+/)) {
+                word = substr(value, RSTART, RLENGTH)
+                if (word ~ /^[0-9]/) { gsub(/_/, "", word); word = tolower(word) }
+                out = out substr(value, 1, RSTART - 1) word
+                value = substr(value, RSTART + RLENGTH)
+            }
+            return out value
+        }
+        { sub(/\/\/.*/, "") }
+        !name && /^ *(pub )?const [A-Z][A-Z0-9_]*:/ {
+            name = $0; sub(/^ *(pub )?const /, "", name); sub(/:.*/, "", name)
+            text = ""
+        }
+        name { text = text " " $0 }
+        # the semicolon that ends it, and not the one in an array type
+        name && /; *$/ {
+            sub(/^[^=]*=/, "", text); sub(/; *$/, "", text)
+            print name, spelled(text)
+            name = ""
+        }' "$1"
+}
+
+# value NAME: its value among the lines read.
+value() { awk -v name="$1" '$1 == name { print $2 }'; }
+
+# pairs CODES LEVELS: two arrays as one of pairs.
+pairs() {
+    paste -d ',' <(tr -d '[]' <<< "$1" | tr ',' '\n') <(tr -d '[]' <<< "$2" | tr ',' '\n') \
+        | sed 's/.*/(&)/' | paste -s -d ',' | sed 's/.*/[&]/'
+}
+
+theirs=$(declared "$published") ours=$(declared "$constants") tables=$(declared "$window")
+compared=0 failed=0
+
+# same NAME OURS: one constant compared with the published one of that name.
+same() {
+    local published_value
+    published_value=$(value "$1" <<< "$theirs")
+    compared=$((compared + 1))
+    [ -n "$2" ] && [ "$2" = "$published_value" ] && return
+    failed=$((failed + 1))
+    echo "$1 is '$2', in the published text '$published_value'"
+}
+
+while read -r name number; do
+    [ "$name" = "$own_name" ] || same "$name" "$number"
+done <<< "$ours"
+for table in CMP_RH CMP_RL; do
+    same "$table" "$(pairs "$(value "${table}_CODE" <<< "$tables")" "$(value "${table}_LEVEL" <<< "$tables")")"
+done
+same M "$(value M <<< "$tables")"
+
+# All that constants.rt declares was read, and that is not too little.
+[ "$(grep -c '^pub const ' "$constants")" -eq "$(wc -l <<< "$ours")" ] || fail "not every constant of $constants was read"
+[ "$compared" -ge 60 ] || fail "only $compared constants were compared"
+echo "constants: $compared compared with the published text, $failed differ"
+[ "$failed" -eq 0 ]
