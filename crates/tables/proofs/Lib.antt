@@ -1,11 +1,12 @@
 pub mod Both
+pub mod Below
 pub mod Held
 pub mod Steps
 pub mod Every
 pub mod Copy
 pub mod Words
 pub mod Gains
-pub mod Rowed
+pub mod KindOfRow
 pub mod Walk
 pub mod WindowRule
 pub mod Offsets

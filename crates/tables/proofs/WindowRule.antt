@@ -12,6 +12,7 @@ use lib.ListN.{getD, length}
 use lib.Ieee.{Float, nan, eq, round}
 use Rattle.numbers.specs.Binary32.{_*f_}
 use Rattle.numbers.proofs.Order.{le-numbers, lt-irrefl, lt-trans, nlt→le, le-lt-trans, lt-le-trans, le-antisym, eq-comm}
+use Rattle.tables.proofs.Below.{up-to}
 use Rattle.tables.proofs.Both.{and-l, and-r}
 use Rattle.tables.specs.declared.window.Side.{Side}
 use Rattle.tables.specs.declared.window.Side.the-variants.{Upper, Lower}
@@ -50,25 +51,6 @@ level-once : (side : Side) (x y : Float) → asNear side x y ≡ true → asNear
 level-once Upper x y p q = le-antisym x y p q
 level-once Lower x y p q = le-antisym x y q p
 
--- ---- places up to n
-
-split-lt : (i n : ℕ) → i < suc n → (i < n) ⊎ (i ≡ n)
-split-lt zero zero h = inr refl
-split-lt zero (suc n) h = inl (omega arith)
-split-lt (suc i) zero h = inr (omega arith)
-split-lt (suc i) (suc n) h = next (split-lt i n (omega arith))
-  where
-    next : (i < n) ⊎ (i ≡ n) → (suc i < suc n) ⊎ (suc i ≡ suc n)
-    next (inl a) = inl (omega arith)
-    next (inr e) = inr (ap suc e)
-
-one-more : (P : ℕ → Type 0) (n : ℕ) → ((i : ℕ) → i < n → P i) → P n → (i : ℕ) → i < suc n → P i
-one-more P n f p i h = go (split-lt i n h)
-  where
-    go : (i < n) ⊎ (i ≡ n) → P i
-    go (inl a) = f i a
-    go (inr e) = subst P (sym e) p
-
 -- ---- what a walk picks
 
 module _ (side : Side) (limit : Float) (ks : List ℕ) (vs : List Float) where
@@ -101,17 +83,17 @@ module _ (side : Side) (limit : Float) (ks : List ℕ) (vs : List Float) where
       w = getD vs n nan
 
       go : (t : Bool) → ok w ≡ t → Known (suc n) (cond t (Entry (getD ks n 0) w) NoEntry)
-      go true e = (n, omega arith, refl, refl, e, one-more (NoneNearer w) n (λ i l o. absurd (true≢false (sym o ∙ h i l))) (λ o. near-self side w))
-      go false e = one-more (λ (i : ℕ). ok (getD vs i nan) ≡ false) n h e
+      go true e = (n, omega arith, refl, refl, e, up-to (NoneNearer w) n (λ i l o. absurd (true≢false (sym o ∙ h i l))) (λ o. near-self side w))
+      go false e = up-to (λ (i : ℕ). ok (getD vs i nan) ≡ false) n h e
   known-step n (Entry k v) h = go (ok (getD vs n nan)) (nearer side (getD vs n nan) v) refl refl
     where
       w : Float
       w = getD vs n nan
 
       go : (t u : Bool) → ok w ≡ t → nearer side w v ≡ u → Known (suc n) (cond t (cond u (Entry (getD ks n 0) w) (Entry k v)) (Entry k v))
-      go true true e f = (n, omega arith, refl, refl, e, one-more (NoneNearer w) n (λ i l o. further (getD vs i nan) w v (h .5 i l o) f) (λ o. near-self side w))
-      go true false e f = (h .0, omega (arith, h .1), h .2, h .3, h .4, one-more (NoneNearer v) n (h .5) (λ o. f))
-      go false u e f = (h .0, omega (arith, h .1), h .2, h .3, h .4, one-more (NoneNearer v) n (h .5) (λ o. absurd (true≢false (sym o ∙ e))))
+      go true true e f = (n, omega arith, refl, refl, e, up-to (NoneNearer w) n (λ i l o. further (getD vs i nan) w v (h .5 i l o) f) (λ o. near-self side w))
+      go true false e f = (h .0, omega (arith, h .1), h .2, h .3, h .4, up-to (NoneNearer v) n (h .5) (λ o. f))
+      go false u e f = (h .0, omega (arith, h .1), h .2, h .3, h .4, up-to (NoneNearer v) n (h .5) (λ o. absurd (true≢false (sym o ∙ e))))
 
   known : (n : ℕ) → Known n (walk side limit ks vs n)
   unfolding walk

@@ -7,7 +7,7 @@ use lib.Dec.{T, eqb, ltb, leb}
 use lib.Ieee.{Float, nan, inf, fin, binary32, lt, ofBits, ofFields, nanBits}
 use Rattle.numbers.specs.Binary32.{isFinite, absOf}
 use Rattle.tables.specs.declared.calibration.Calibration.{Calibration}
-use Rattle.tables.specs.Calibration.{wordAt, usable, cal}
+use Rattle.tables.specs.Calibration.{wordAt, million, usable, cal}
 
 -- an exponent field that is not all ones is no NaN's
 pub readable : (w : ℕ) → (w % 2147483648 / 8388608 ≡ 255 → ⊥) → T (not (nanBits binary32 w))
@@ -28,7 +28,7 @@ unfolding ofBits
 unusable w e = unusable-field (leb 2147483648 w) (w % 2147483648 / 8388608) (w % 8388608) e
 
 -- what is below 1.0e6 in size is finite
-pub sized : (x : Float) → usable x ≡ lt (absOf x) (ofBits binary32 0x4974_2400)
+pub sized : (x : Float) → usable x ≡ lt (absOf x) million
 unfolding usable isFinite absOf lt ofBits
 sized nan = refl
 sized (inf s) = refl
@@ -41,7 +41,10 @@ module _ (c : Calibration) (at : ℕ) (d : Float) where
 
   by : (v r u : Bool) → c .valid ≡ v → ltb (at / 4) 73 ≡ r → usable number ≡ u → cal c at d ≡ cond (v && r && u) number d
   unfolding cal
-  by v r u p q s = ap (λ (b : Bool). cond (b && ltb (at / 4) 73 && usable number) number d) p ∙ ap (λ (b : Bool). cond (v && b && usable number) number d) q ∙ ap (λ (b : Bool). cond (v && r && b) number d) s
+  by v r u p q s =
+      ap (λ (b : Bool). cond (b && ltb (at / 4) 73 && usable number) number d) p
+      ∙ ap (λ (b : Bool). cond (v && b && usable number) number d) q
+      ∙ ap (λ (b : Bool). cond (v && r && b) number d) s
 
   pub past : 73 ≤ at / 4 → d ≡ cal c at d
   past h = sym (by (c .valid) false (usable number) refl (le-ltb (at / 4) 73 h) refl ∙ go (c .valid))

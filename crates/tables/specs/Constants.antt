@@ -8,7 +8,7 @@ use Rattle.numbers.specs.Binary32.{_/f_}
 use Rattle.tables.specs.Decimal.{decimal}
 use Rattle.tables.specs.Decided.{decidedFloats}
 
--- ---- tables, read by `entryAt` but for CYCLE
+-- ---- tables of floats, read by `entryAt`
 
 -- V_LIM: volts, by V range
 unfoldable pub vLim : List Float
@@ -26,13 +26,6 @@ shuntOhm = decimal 1 2 ∷ decimal 5 1 ∷ decimal 475 1 ∷ []
 unfoldable pub kv : List Float
 kv = decimal 10 0 ∷ decimal 100 0 ∷ decimal 1000 0 ∷ decimal 10000 0 ∷ []
 
--- CYCLE, which goes round: the source takes the low two bits of the phase
-unfoldable pub cycle : List ℕ
-cycle = 0x88 ∷ 0x8c ∷ 0x88 ∷ 0x80 ∷ []
-
-unfoldable pub cycleAt : ℕ → ℕ
-cycleAt phase = getD cycle (phase % 4) 0
-
 -- ---- numbers
 
 abbrev pub code : Float
@@ -46,6 +39,13 @@ r34Xx = 0x80
 
 abbrev pub r34Yy : ℕ
 r34Yy = 0x8c
+
+-- CYCLE, R34 by phase. It goes round: the source takes the low two bits of the phase
+unfoldable pub cycle : List ℕ
+cycle = r34Xy ∷ r34Yy ∷ r34Xy ∷ r34Xx ∷ []
+
+unfoldable pub cycleAt : ℕ → ℕ
+cycleAt phase = getD cycle (phase % 4) 0
 
 abbrev pub r20Sense : ℕ
 r20Sense = 0x10

@@ -1,5 +1,5 @@
 -- No job, a zero job before step 6 and from it on, another job: a law each.
-use Rattle.tables.proofs.Rowed.{no-job, early, later, other-job}
+use Rattle.tables.proofs.KindOfRow.{no-job, early, later, other-job}
 use Rattle.tables.proofs.row.is_dc.Statement.{statement}
 use Rattle.tables.proofs.row.is_dc.Tie as tie
 

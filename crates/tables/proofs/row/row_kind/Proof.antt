@@ -4,7 +4,7 @@ use mathlib.Core.Bool.{true, false}
 use mathlib.Core.Path.{_≡_, refl, sym, _∙_}
 use borrow.Author.Needs.{needs}
 use Rattle.tables.specs.Row.{isDc, isReference}
-use Rattle.tables.proofs.Rowed.{reference, no-reference}
+use Rattle.tables.proofs.KindOfRow.{reference, no-reference}
 use Rattle.tables.proofs.row.row_kind.Statement.{statement}
 use Rattle.tables.proofs.row.row_kind.Tie as tie
 
