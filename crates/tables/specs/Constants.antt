@@ -219,9 +219,13 @@ floatConstants =
     (decimal 125 2 /f decimal 262144 0) ∷ decimal 6 0 ∷ decimal 50 6 ∷ decimal 5 3 ∷ decimal 1 3 ∷ decimal 25 4 ∷ decimal 400 0 ∷ decimal 1 1 ∷ decimal 7 1 ∷ decimal 1 0
     ∷ decimal 1 0 ∷ decimal 3 3 ∷ decimal 32 2 ∷ decidedFloats
 
-unfoldable pub wholeConstants : List ℕ
-wholeConstants =
+unfoldable pub chipConstants : List ℕ
+chipConstants =
     r34Xy ∷ r34Xx ∷ r34Yy ∷ r20Sense ∷ r20Pb4 ∷ r21Default ∷ settleMs ∷ altVSettleMs ∷ vcalAcSettleMs ∷ vcalDcSettleMs ∷ discDefault
-    ∷ altN ∷ altVSkip ∷ dcSkip ∷ jobSkip ∷ jobN ∷ ringN ∷ tLimDefault ∷ coupAcdc ∷ coupDc ∷ coupAc ∷ mainP ∷ mainWh ∷ mainVah ∷ hintNoAc
-    ∷ hintAc ∷ jobZero ∷ jobVcal ∷ jrNone ∷ jrRun ∷ jrOk ∷ jrSignal ∷ jrSmall ∷ jrBig ∷ jrUnstable ∷ jrRange ∷ jrAbort ∷ jrMethod
-    ∷ zeroMaxLpf ∷ zeroMaxAd1 ∷ calNone ∷ calRun ∷ calOk ∷ calFlat ∷ calNotReactive ∷ calRange ∷ []
+    ∷ altN ∷ altVSkip ∷ dcSkip ∷ jobSkip ∷ jobN ∷ ringN ∷ tLimDefault ∷ []
+
+unfoldable pub stateConstants : List ℕ
+stateConstants =
+    coupAcdc ∷ coupDc ∷ coupAc ∷ mainP ∷ mainWh ∷ mainVah ∷ hintNoAc ∷ hintAc ∷ jobZero ∷ jobVcal ∷ jrNone ∷ jrRun ∷ jrOk ∷ jrSignal
+    ∷ jrSmall ∷ jrBig ∷ jrUnstable ∷ jrRange ∷ jrAbort ∷ jrMethod ∷ zeroMaxLpf ∷ zeroMaxAd1 ∷ calNone ∷ calRun ∷ calOk ∷ calFlat
+    ∷ calNotReactive ∷ calRange ∷ []

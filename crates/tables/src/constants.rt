@@ -1,8 +1,8 @@
-// The source's constants, under its names. `float_constants` and `whole_constants` list the constants
-// themselves, so their contracts say the value of each; tests/constants.sh compares them with the
-// published text.
+// The source's constants, under its names. `float_constants`, `chip_constants` and `state_constants`
+// list the constants themselves, so their contracts say the value of each; tests/constants.sh
+// compares them with the published text.
 ghost use mathlib.Core.Path.{_≡_};
-ghost use Rattle.tables.specs.Constants.{floatConstants, wholeConstants};
+ghost use Rattle.tables.specs.Constants.{floatConstants, chipConstants, stateConstants};
 use crate::decided::AD1_DIV;
 use crate::decided::FLOOR_V;
 
@@ -160,8 +160,9 @@ pub const CAL_RANGE: u8 = 5;
 
 pub const CAL_PF_MAX: f32 = 0.32;
 
-// ---- every constant that is one number, in the order above; the two decided ones last
+// ---- every constant that is one number, in the order above
 
+// The floats, the two decided ones last.
 pub fn float_constants() -> [f32; 15]
     ensures { λ r. ⌜ r ≡ floatConstants ⌝ }
 {
@@ -184,8 +185,9 @@ pub fn float_constants() -> [f32; 15]
     ]
 }
 
-pub fn whole_constants() -> [u64; 46]
-    ensures { λ r. ⌜ r ≡ wholeConstants ⌝ }
+// The whole numbers that have to do with the chip: registers, times, counts, the limit's seconds.
+pub fn chip_constants() -> [u64; 18]
+    ensures { λ r. ⌜ r ≡ chipConstants ⌝ }
 {
     [
         R34_XY as u64,
@@ -206,6 +208,14 @@ pub fn whole_constants() -> [u64; 46]
         JOB_N as u64,
         RING_N as u64,
         T_LIM_DEFAULT as u64,
+    ]
+}
+
+// Those that the meter's state holds, with the zero job's bounds.
+pub fn state_constants() -> [u64; 28]
+    ensures { λ r. ⌜ r ≡ stateConstants ⌝ }
+{
+    [
         COUP_ACDC as u64,
         COUP_DC as u64,
         COUP_AC as u64,

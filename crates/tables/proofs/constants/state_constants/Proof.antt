@@ -1,8 +1,8 @@
 -- Number by number the same list.
 use borrow.Author.Needs.{needs}
-use Rattle.tables.specs.Constants.{wholeConstants}
-use Rattle.tables.proofs.constants.whole_constants.Statement.{statement}
-use Rattle.tables.proofs.constants.whole_constants.Tie as tie
+use Rattle.tables.specs.Constants.{stateConstants}
+use Rattle.tables.proofs.constants.state_constants.Statement.{statement}
+use Rattle.tables.proofs.constants.state_constants.Tie as tie
 
 cast-t1 : tie.Need-cast-t1
 cast-t1 c = search needs
@@ -39,6 +39,9 @@ cast-t11 c = search needs
 
 cast-t12 : tie.Need-cast-t12
 cast-t12 c = search needs
+
+cast-t13 : tie.Need-cast-t13
+cast-t13 c = search needs
 
 cast-t14 : tie.Need-cast-t14
 cast-t14 c = search needs
@@ -85,54 +88,12 @@ cast-t27 c = search needs
 cast-t28 : tie.Need-cast-t28
 cast-t28 c = search needs
 
-cast-t29 : tie.Need-cast-t29
-cast-t29 c = search needs
-
-cast-t30 : tie.Need-cast-t30
-cast-t30 c = search needs
-
-cast-t31 : tie.Need-cast-t31
-cast-t31 c = search needs
-
-cast-t32 : tie.Need-cast-t32
-cast-t32 c = search needs
-
-cast-t33 : tie.Need-cast-t33
-cast-t33 c = search needs
-
-cast-t34 : tie.Need-cast-t34
-cast-t34 c = search needs
-
-cast-t35 : tie.Need-cast-t35
-cast-t35 c = search needs
-
-cast-t36 : tie.Need-cast-t36
-cast-t36 c = search needs
-
-cast-t37 : tie.Need-cast-t37
-cast-t37 c = search needs
-
-cast-t38 : tie.Need-cast-t38
-cast-t38 c = search needs
-
-cast-t39 : tie.Need-cast-t39
-cast-t39 c = search needs
-
-cast-t40 : tie.Need-cast-t40
-cast-t40 c = search needs
-
-cast-t41 : tie.Need-cast-t41
-cast-t41 c = search needs
-
-cast-t42 : tie.Need-cast-t42
-cast-t42 c = search needs
-
 returns : tie.Need-returns
-unfolding wholeConstants
+unfolding stateConstants
 returns c = search needs
 
-pub whole-constants-spec : {M : Type 1} → statement M
-whole-constants-spec =
+pub state-constants-spec : {M : Type 1} → statement M
+state-constants-spec =
     tie.close
     (tie.spec
     cast-t1
@@ -147,6 +108,7 @@ whole-constants-spec =
     cast-t10
     cast-t11
     cast-t12
+    cast-t13
     cast-t14
     cast-t15
     cast-t16
@@ -162,18 +124,4 @@ whole-constants-spec =
     cast-t26
     cast-t27
     cast-t28
-    cast-t29
-    cast-t30
-    cast-t31
-    cast-t32
-    cast-t33
-    cast-t34
-    cast-t35
-    cast-t36
-    cast-t37
-    cast-t38
-    cast-t39
-    cast-t40
-    cast-t41
-    cast-t42
     returns)
