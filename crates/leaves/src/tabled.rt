@@ -2,7 +2,7 @@
 ghost use mathlib.Core.Path.{_≡_};
 ghost use lib.Ieee.{nan};
 ghost use Rattle.refusals.specs.Number.{refusalNumber};
-ghost use Rattle.tables.specs.Decimal.{entryAt};
+ghost use Rattle.tables.specs.Bounds.{entryAt};
 ghost use Rattle.tables.specs.Constants.{vLim, iLim, shuntOhm, kv, cycleAt};
 ghost use Rattle.tables.specs.Decided.{kAcv, dcvNegk, acvWin, acaWin};
 ghost use Rattle.tables.specs.Ranges.{iuIr, calIndex, coupOf, nextCoupling};

@@ -1,15 +1,26 @@
--- A test of each entry of a list, taken from the front.
+-- A test that each entry of a list passes: at an index, and taken from the front.
 use mathlib.Core.Path.{_≡_, refl, sym, ap, _∙_}
 use mathlib.Core.Bool.{Bool, true, false, cond, _&&_}
 use mathlib.Core.List.{List, [], _∷_}
 use Prim.Native.Nat.{ℕ, zero, suc, _+_, _<_, _≤_}
 use native.Mathlib.Nat.{not-suc-le-zero, le-of-suc-le-suc}
 use native.Mathlib.Numerals.{add-one}
+use native.Mathlib.Omega.{arith}
+use lib.Dec.{T}
 use lib.ListN.{length, getD, drop, drop-of-length-le}
 use lib.Ieee.{Float, nan}
-use Rattle.tables.specs.Description.{inBounds, every, descriptionRefusal}
+use Rattle.tables.proofs.Both.{and-l, and-r}
+use Rattle.tables.specs.Bounds.{every}
+use Rattle.tables.specs.Description.{inBounds, descriptionRefusal}
 use Rattle.tables.specs.declared.description.Description.{Description}
 use Rattle.refusals.specs.declared.Refusal.the-variants as refusal
+
+-- entry j passes, or what stands for it past the end
+pub each : {A : Type 0} (test : A → Bool) (none : A) (xs : List A) (j : ℕ) → T (every test xs) → (length xs ≤ j → T (test none)) → T (test (getD xs j none))
+unfolding every
+each test none [] j h o = o (omega arith)
+each test none (x ∷ xs) zero h o = and-l (test x) (every test xs) h
+each test none (x ∷ xs) (suc j) h o = each test none xs j (and-r (test x) (every test xs) h) (λ l. o (omega (arith, l)))
 
 module _ (test : Float → Bool) where
   one : (xs : List Float) (i : ℕ) → i < length xs → every test (drop i xs) ≡ test (getD xs i nan) && every test (drop (suc i) xs)

@@ -2,21 +2,21 @@
 use mathlib.Core.Path.{_≡_, refl, sym, _∙_, subst}
 use mathlib.Core.Logic.{inl, inr}
 use mathlib.Core.Bool.{Bool, true, false, _&&_, true≢false}
-use mathlib.Core.List.{List, [], _∷_}
-use Prim.Native.Nat.{ℕ, zero, suc, _<_}
-use native.Mathlib.Nat.{not-suc-le-zero}
-use native.Mathlib.Omega.{arith}
+use Prim.Native.Nat.{ℕ, _<_, _≤_}
+use native.Mathlib.Nat.{not-le-of-lt}
 use lib.Dec.{T}
-use lib.ListN.{getD, length}
 use lib.Ieee.{Float, nan, inf, fin, add, sub, mul, neg, sum, lt, ofBits, round}
 use Rattle.numbers.specs.Binary32.{_+f_}
 use Rattle.numbers.proofs.Order.{lt-numbers, le-numbers, lt→nle}
 use Rattle.tables.proofs.Both.{and-l, and-r, holds}
+use Rattle.tables.specs.Bounds.{every}
+use Rattle.tables.proofs.Every.{each}
+use Rattle.tables.specs.declared.window.Side.{Side}
 use Rattle.tables.specs.declared.window.Side.the-variants.{Upper, Lower}
 use Rattle.tables.specs.declared.window.Window.the-variants.{NoWindow}
 use Rattle.tables.specs.Window.{levels, away, clears, nearer, inside, cmpWindow}
 use Rattle.tables.specs.Rule.{level}
-use Rattle.tables.proofs.WindowRule.{none-exactly}
+use Rattle.tables.proofs.WindowRule.{twelve, none-exactly}
 
 pub middle-nan : (a : Float) → cmpWindow nan a ≡ NoWindow
 unfolding clears away add sum
@@ -35,24 +35,22 @@ swing-nan c =
     (inl (λ j s. lt-numbers (level Upper j) nan (subst (λ (x : Float). lt (level Upper j) x ≡ true) (sum-nan c) (s .2)) .1))
 
 -- ---- every level lies between the infinities: a computed test
-abbrev between : List Float → Bool
-between [] = true
-between (v ∷ vs) = lt v (inf false) && lt (inf true) v && between vs
+abbrev between : Float → Bool
+between v = lt v (inf false) && lt (inf true) v
 
-between-at : (vs : List Float) (j : ℕ) → T (between vs) → j < length vs → (lt (getD vs j nan) (inf false) ≡ true) × (lt (inf true) (getD vs j nan) ≡ true)
-between-at [] j h l = absurd (not-suc-le-zero l)
-between-at (v ∷ vs) zero h l =
-    let p = and-l (lt v (inf false) && lt (inf true) v) (between vs) h in
-    (holds (lt v (inf false)) (and-l (lt v (inf false)) (lt (inf true) v) p), holds (lt (inf true) v) (and-r (lt v (inf false)) (lt (inf true) v) p))
-between-at (v ∷ vs) (suc j) h l = between-at vs j (and-r (lt v (inf false) && lt (inf true) v) (between vs) h) (omega arith)
+all-between : (side : Side) → T (every between (levels side))
+unfolding levels every lt round
+all-between Upper = tt
+all-between Lower = tt
+
+between-at : (side : Side) (j : ℕ) → j < 12 → T (between (level side j))
+between-at side j l = each between nan (levels side) j (all-between side) (λ h. absurd (not-le-of-lt l (subst (λ (n : ℕ). n ≤ j) (twelve side) h)))
 
 upper-between : (j : ℕ) → j < 12 → lt (level Upper j) (inf false) ≡ true
-unfolding levels lt round
-upper-between j l = between-at (levels Upper) j tt l .0
+upper-between j l = holds (lt (level Upper j) (inf false)) (and-l (lt (level Upper j) (inf false)) (lt (inf true) (level Upper j)) (between-at Upper j l))
 
 lower-between : (j : ℕ) → j < 12 → lt (inf true) (level Lower j) ≡ true
-unfolding levels lt round
-lower-between j l = between-at (levels Lower) j tt l .1
+lower-between j l = holds (lt (inf true) (level Lower j)) (and-r (lt (level Lower j) (inf false)) (lt (inf true) (level Lower j)) (between-at Lower j l))
 
 pub middle-infinite : (s : Bool) (a : Float) → cmpWindow (inf s) a ≡ NoWindow
 unfolding clears away add sub sum neg ofBits

@@ -3,7 +3,9 @@ use mathlib.Core.Path.{_≡_, refl}
 use mathlib.Core.Bool.{true}
 use mathlib.Core.List.{_++_}
 use lib.ListN.{length}
+use Rattle.tables.specs.Bounds.{every}
 use Rattle.tables.specs.Offsets.{factors, offsets, beginsThere}
 
-pub checked : (beginsThere (factors ++ offsets) ≡ true) × (length factors ≡ 26) × (length offsets ≡ 26)
+pub checked : (every beginsThere (factors ++ offsets) ≡ true) × (length factors ≡ 26) × (length offsets ≡ 26)
+unfolding every
 checked = (refl, refl, refl)

@@ -1,14 +1,15 @@
 -- A walk over a table: one entry more, its end, and its codes, which have four bits.
 use mathlib.Core.Path.{_≡_, sym, ap, _∙_, subst}
 use mathlib.Core.Bool.{Bool, true, false, cond, _&&_}
-use mathlib.Core.List.{List, [], _∷_}
+use mathlib.Core.List.{List}
 use Prim.Native.Nat.{ℕ, zero, suc, _+_, _*_, _<_, _≤_}
 use native.Mathlib.Numerals.{add-one}
 use native.Mathlib.Omega.{arith}
 use lib.Dec.{T, ltb, ltb→lt}
 use lib.ListN.{getD}
 use lib.Ieee.{Float, nan}
-use Rattle.tables.proofs.Both.{and-l, and-r}
+use Rattle.tables.specs.Bounds.{every}
+use Rattle.tables.proofs.Every.{each}
 use Rattle.tables.specs.declared.window.Side.{Side}
 use Rattle.tables.specs.declared.window.Side.the-variants.{Upper, Lower}
 use Rattle.tables.specs.declared.window.Pick.{Pick}
@@ -25,17 +26,11 @@ module _ (side : Side) (limit : Float) (ks : List ℕ) (vs : List Float) where
   ended n i b h k e = let t : i ≡ n = omega arith in e ∙ ap (walk side limit ks vs) t
 
 -- ---- every code of a table has four bits, and so has the picked one
-abbrev small : List ℕ → Bool
-small [] = true
-small (k ∷ ks) = ltb k 16 && small ks
+abbrev small : ℕ → Bool
+small k = ltb k 16
 
-small-at : (ks : List ℕ) (j : ℕ) → T (small ks) → getD ks j 0 < 16
-small-at [] j h = omega arith
-small-at (k ∷ ks) zero h = ltb→lt k 16 (and-l (ltb k 16) (small ks) h)
-small-at (k ∷ ks) (suc j) h = small-at ks j (and-r (ltb k 16) (small ks) h)
-
-codes-small : (side : Side) → T (small (codes side))
-unfolding codes
+codes-small : (side : Side) → T (every small (codes side))
+unfolding codes every
 codes-small Upper = tt
 codes-small Lower = tt
 
@@ -50,7 +45,7 @@ four-bits side limit vs zero = tt
 four-bits side limit vs (suc n) =
     let b = walk side limit (codes side) vs n in
     let v = getD vs n nan in
-    either (clears side limit v) (nearerThan side v b) (getD (codes side) n 0) v b (small-at (codes side) n (codes-small side)) (four-bits side limit vs n)
+    either (clears side limit v) (nearerThan side v b) (getD (codes side) n 0) v b (ltb→lt (getD (codes side) n 0) 16 (each small 0 (codes side) n (codes-small side) (λ l. tt))) (four-bits side limit vs n)
 
 -- ---- the window of two picks, by what was picked
 module _ (c a : Float) (up down : Pick) where

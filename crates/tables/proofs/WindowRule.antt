@@ -5,7 +5,7 @@ use mathlib.Core.Logic.{_⊎_, inl, inr, _↔_}
 use mathlib.Core.Bool.{Bool, true, false, cond, not, _&&_, true≢false, false≢true}
 use mathlib.Core.List.{List, [], _∷_}
 use Prim.Native.Nat.{ℕ, zero, suc, _+_, _*_, _<_}
-use native.Mathlib.Nat.{not-suc-le-zero}
+use native.Mathlib.Nat.{not-suc-le-zero, not-le-of-lt}
 use native.Mathlib.Omega.{arith}
 use lib.Dec.{T}
 use lib.ListN.{getD, length}
@@ -14,6 +14,8 @@ use Rattle.numbers.specs.Binary32.{_*f_}
 use Rattle.numbers.proofs.Order.{le-numbers, lt-irrefl, lt-trans, nlt→le, le-lt-trans, lt-le-trans, le-antisym, eq-comm}
 use Rattle.tables.proofs.Below.{up-to}
 use Rattle.tables.proofs.Both.{and-l, and-r}
+use Rattle.tables.specs.Bounds.{every}
+use Rattle.tables.proofs.Every.{each}
 use Rattle.tables.specs.declared.window.Side.{Side}
 use Rattle.tables.specs.declared.window.Side.the-variants.{Upper, Lower}
 use Rattle.tables.specs.declared.window.Pick.{Pick}
@@ -144,8 +146,7 @@ module _ (side : Side) (c a : Float) where
 
 -- ---- each table has each level once: a computed test
 abbrev others : Float → List Float → Bool
-others v [] = true
-others v (w ∷ ws) = not (eq v w) && others v ws
+others v ws = every (λ (w : Float). not (eq v w)) ws
 
 abbrev once : List Float → Bool
 once [] = true
@@ -156,9 +157,7 @@ no true h e = h
 no false h e = false≢true e
 
 other : (v : Float) (ws : List Float) (j : ℕ) → T (others v ws) → j < length ws → eq v (getD ws j nan) ≡ true → ⊥
-other v [] j h l e = not-suc-le-zero l
-other v (w ∷ ws) zero h l e = no (eq v w) (and-l (not (eq v w)) (others v ws) h) e
-other v (w ∷ ws) (suc j) h l e = other v ws j (and-r (not (eq v w)) (others v ws) h) (omega arith) e
+other v ws j h l e = no (eq v (getD ws j nan)) (each (λ (w : Float). not (eq v w)) nan ws j h (λ p. absurd (not-le-of-lt l p))) e
 
 one-place : (vs : List Float) (i j : ℕ) → T (once vs) → i < length vs → j < length vs → eq (getD vs i nan) (getD vs j nan) ≡ true → i ≡ j
 one-place [] i j h l m e = absurd (not-suc-le-zero l)
@@ -168,11 +167,11 @@ one-place (v ∷ vs) (suc i) zero h l m e = absurd (other v vs i (and-l (others 
 one-place (v ∷ vs) (suc i) (suc j) h l m e = ap suc (one-place vs i j (and-r (others v vs) (once vs) h) (omega arith) (omega arith) e)
 
 levels-once : (side : Side) → T (once (levels side))
-unfolding levels eq round
+unfolding levels every eq round
 levels-once Upper = tt
 levels-once Lower = tt
 
-twelve : (side : Side) → length (levels side) ≡ 12
+pub twelve : (side : Side) → length (levels side) ≡ 12
 unfolding levels
 twelve Upper = refl
 twelve Lower = refl

@@ -1,10 +1,9 @@
 -- Refusal 7, by document 01: "one of its six numbers is NaN or outside 2^-20 to 2^20, ends allowed".
-use mathlib.Core.Bool.{Bool, true, _&&_, cond}
-use mathlib.Core.List.{List, [], _∷_}
+use mathlib.Core.Bool.{Bool, _&&_, cond}
 use lib.Ieee.{Float, binary32, ofBits}
 use Rattle.refusals.specs.declared.Refusal.{Refusal}
 use Rattle.refusals.specs.declared.Refusal.the-variants as refusal
-use Rattle.tables.specs.Bounds.{within}
+use Rattle.tables.specs.Bounds.{within, every}
 use Rattle.tables.specs.declared.description.Description.{Description}
 
 abbrev pub least : Float
@@ -15,11 +14,6 @@ most = ofBits binary32 0x4980_0000  -- 2^20
 
 unfoldable pub inBounds : Float → Bool
 inBounds x = within least most x
-
--- each of a list passes a test
-unfoldable pub every : (Float → Bool) → List Float → Bool
-every test [] = true
-every test (x ∷ xs) = test x && every test xs
 
 -- the six: "two `MV_DIV` values, three `SHUNT` values, one over ratio"
 unfoldable pub descriptionRefusal : Description → Refusal

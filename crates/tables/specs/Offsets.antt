@@ -1,5 +1,5 @@
 -- Where the source reads calibration words: the byte offsets in its calls of `cal`, as runs of words.
-use mathlib.Core.Bool.{Bool, true, _&&_}
+use mathlib.Core.Bool.{Bool}
 use mathlib.Core.List.{List, [], _∷_, _++_}
 use Prim.Native.Nat.{ℕ, zero, suc, _+_, _*_}
 use lib.Dec.{eqb}
@@ -26,6 +26,5 @@ abbrev pub ownNumbers : List ℕ
 ownNumbers = from 0 73
 
 -- word k has bytes 4 k to 4 k + 3: the word read at an offset is the one that begins there
-abbrev pub beginsThere : List ℕ → Bool
-beginsThere [] = true
-beginsThere (o ∷ os) = eqb (4 * wordAt ownNumbers o) o && beginsThere os
+abbrev pub beginsThere : ℕ → Bool
+beginsThere o = eqb (4 * wordAt ownNumbers o) o

@@ -1,14 +1,15 @@
 // What a meter is told of its hardware.
 ghost use mathlib.Core.Path.{_≡_};
-ghost use Rattle.tables.specs.Description.{inBounds, every, descriptionRefusal};
+ghost use Rattle.tables.specs.Bounds.{every};
+ghost use Rattle.tables.specs.Description.{inBounds, descriptionRefusal};
 use crate::bounds::within;
 use refusals::Refusal;
 
 #[repr(C)]
 pub struct Description {
-    // the divisors of the two amplifier gains
+    // the source's `MV_DIV`, by gain index
     pub mv_div: [f32; 2],
-    // by current unit; it is not `SHUNT_OHM`
+    // the source's `SHUNT`, by current unit; it is not `SHUNT_OHM`
     pub shunt: [f32; 3],
     // the source's `over()`
     pub over: f32,

@@ -3,7 +3,7 @@ ghost use mathlib.Core.Path.{_≡_};
 ghost use Prim.Native.Nat.{_<_};
 ghost use lib.ListN.{length};
 ghost use lib.Ieee.{nan};
-ghost use Rattle.tables.specs.Decimal.{entryAt};
+ghost use Rattle.tables.specs.Bounds.{entryAt};
 ghost use Rattle.tables.specs.Constants.{vLim, iLim, shuntOhm, kv, cycleAt};
 ghost use Rattle.tables.specs.Decided.{kAcv, dcvNegk, acvWin, acaWin};
 use crate::constants::CYCLE;
@@ -21,10 +21,11 @@ fn entry(table: &[f32], k: u8) -> f32
     requires { ⌜ 0 < length (now table) ⌝ }
     ensures { λ r. ⌜ r ≡ entryAt nan (now (table .entry)) k ⌝ }
 {
-    if (k as usize) < table.len() {
+    let last = table.len() - 1;
+    if (k as usize) < last {
         table[k as usize]
     } else {
-        table[table.len() - 1]
+        table[last]
     }
 }
 

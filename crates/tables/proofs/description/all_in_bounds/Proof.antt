@@ -6,7 +6,8 @@ use mathlib.Core.Path.{_≡_, refl, sym, _∙_}
 use native.Mathlib.Omega.{arith}
 use borrow.Author.Needs.{needs}
 use Rattle.tables.proofs.Every.{passed, failed, ended}
-use Rattle.tables.specs.Description.{every, inBounds}
+use Rattle.tables.specs.Bounds.{every}
+use Rattle.tables.specs.Description.{inBounds}
 use Rattle.tables.proofs.description.all_in_bounds.Statement.{statement}
 use Rattle.tables.proofs.description.all_in_bounds.Tie as tie
 

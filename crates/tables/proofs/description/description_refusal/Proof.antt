@@ -3,7 +3,8 @@ use borrow.Author.Tests.{not-true, not-false}
 use mathlib.Core.Bool.{true, false}
 use mathlib.Core.Path.{_≡_, refl, sym, _∙_}
 use borrow.Author.Needs.{needs}
-use Rattle.tables.specs.Description.{inBounds, every}
+use Rattle.tables.specs.Bounds.{every}
+use Rattle.tables.specs.Description.{inBounds}
 use Rattle.tables.proofs.Every.{told}
 use Rattle.tables.proofs.description.description_refusal.Statement.{statement}
 use Rattle.tables.proofs.description.description_refusal.Tie as tie
