@@ -9,6 +9,7 @@ ghost use Rattle.numbers.specs.Convert.{narrow};
 ghost use Rattle.numbers.specs.Root.{sqrtOf, hypotOf};
 ghost use Rattle.codes.specs.Flags.{holdsAd1, holdsRmsLpf};
 
+pub mod figured;
 pub mod tabled;
 
 #[no_mangle]

@@ -4,8 +4,10 @@ ghost use Rattle.codes.specs.Frame.{decoded};
 ghost use Rattle.tables.specs.Window.{cmpWindow};
 ghost use Rattle.tables.specs.Ranges.{r36Of};
 ghost use Rattle.tables.specs.Row.{rowKind, rowNumber};
+ghost use Rattle.figures.specs.Acc.{freshAcc, addTo, addedNumber, addedAcc, wattHours};
 ghost use Rattle.pw.specs.Host.{frameCodes, hostWindow};
 use codes::Decoded;
+use figures::acc::Acc;
 use refusals::Refusal;
 use tables::window::Window;
 
@@ -81,4 +83,30 @@ pub extern "C" fn pw_r36_of(steps: i8) -> u8
     ensures { λ r. ⌜ r ≡ r36Of steps ⌝ }
 {
     tables::ranges::r36_of(steps)
+}
+
+// An accumulator that nothing was added to.
+#[no_mangle]
+pub extern "C" fn pw_acc_fresh() -> Acc
+    ensures { λ r. ⌜ r ≡ freshAcc ⌝ }
+{
+    Acc::ZERO
+}
+
+// Adds to the host's own accumulator, and answers 0; or 6, full, and it is as it was.
+#[no_mangle]
+pub extern "C" fn pw_acc_add(acc: &mut Acc, joules: f32) -> u8
+    ensures { λ r. ⌜ (r ≡ addedNumber (addTo (now (acc .entry)) joules)) × (now (acc .exit) ≡ addedAcc (now (acc .entry)) (addTo (now (acc .entry)) joules)) ⌝ }
+{
+    let after = figures::acc::after_add(*acc, joules);
+    *acc = after.acc;
+    after.refusal
+}
+
+// The watt hours of an accumulator.
+#[no_mangle]
+pub extern "C" fn pw_acc_wh(acc: Acc) -> f32
+    ensures { λ r. ⌜ r ≡ wattHours acc ⌝ }
+{
+    Acc::wh(acc)
 }

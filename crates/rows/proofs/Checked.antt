@@ -2,13 +2,14 @@
 use mathlib.Core.Path.{_≡_, refl}
 use mathlib.Core.Bool.{true}
 use lib.ListN.{length}
-use lib.Ieee.{add, sum, sub, neg, mul, lt, le, eq, ofBits, round}
+use lib.Ieee.{add, sum, sub, neg, mul, lt, le, eq, ofBits, ofInt, toSigned, round}
 use Rattle.codes.specs.Frame.{littleEndian, twosComplement, decoded}
 use Rattle.tables.specs.Bounds.{atMost}
 use Rattle.tables.specs.Ranges.{iuIr}
 use Rattle.tables.specs.Window.{codes, levels, away, clears, nearer, picked, walk, inside, joined, cmpWindow}
+use Rattle.figures.specs.Acc.{inI64, signed64, accStep, addTo}
 use Rattle.rows.specs.Rows.{all, rows}
 
-pub checked : (all rows ≡ true) × (length rows ≡ 10)
-unfolding rows decoded littleEndian twosComplement atMost iuIr codes levels away clears nearer picked walk inside joined cmpWindow add sum sub neg mul lt le eq ofBits round
+pub checked : (all rows ≡ true) × (length rows ≡ 11)
+unfolding rows decoded littleEndian twosComplement atMost iuIr codes levels away clears nearer picked walk inside joined cmpWindow inI64 signed64 accStep addTo add sum sub neg mul lt le eq ofBits ofInt toSigned round
 checked = (refl, refl)

@@ -1,18 +1,22 @@
--- Document 01's table "Frames and figures on each side": its rows marked P, so far those that speak of codes, units and windows, each a test of the definition that the contracts cite.
+-- Document 01's table "Frames and figures on each side": its rows marked P, so far all but the one on the mean of zero readings, each a test of the definition that the contracts cite.
 -- One list for all modules, checked as a whole in proofs/Checked.antt.
 use mathlib.Core.Bool.{Bool, true, false, _&&_}
 use mathlib.Core.List.{List, [], _∷_, _++_}
 use Prim.Native.Nat.{ℕ}
 use lib.Dec.{eqb}
 use lib.IntN.{ℤ, pos, negsuc}
+use lib.Ieee.{Float, binary32, eq, round}
 use Rattle.codes.specs.declared.Decoded.{Decoded}
 use Rattle.codes.specs.declared.Decoded.the-variants.{Taken, Refused}
 use Rattle.codes.specs.Frame.{decoded}
-use Rattle.tables.specs.Decimal.{decimal}
+use Rattle.numbers.specs.Decimal.{decimal}
 use Rattle.tables.specs.Ranges.{iuIr}
 use Rattle.tables.specs.declared.window.Window.{Window}
 use Rattle.tables.specs.declared.window.Window.the-variants.{NoWindow, R21}
 use Rattle.tables.specs.Window.{cmpWindow}
+use Rattle.figures.specs.declared.acc.Added.{Added}
+use Rattle.figures.specs.declared.acc.Added.the-variants.{Sum, Full}
+use Rattle.figures.specs.Acc.{freshAcc, addTo}
 
 -- `negsuc n` is -(n + 1)
 abbrev sameInt : ℤ → ℤ → Bool
@@ -58,6 +62,20 @@ abbrev isNone : Window → Bool
 isNone NoWindow = true
 isNone (R21 code) = false
 
+-- an add to what an earlier one left
+abbrev addAgain : Float → Added → Added
+addAgain joules (Sum a w) = addTo a joules
+addAgain joules Full = Full
+
+-- a count of this many millijoules and this fraction
+abbrev isSum : ℤ → Float → Added → Bool
+isSum mj frac (Sum a w) = sameInt (a .mj) mj && eq (a .frac) frac
+isSum mj frac Full = false
+
+-- 1/1024 J
+abbrev joules : Float
+joules = round binary32 false 1 1024
+
 unfoldable pub rows : List Bool
 rows =
     hasLpf (pos 262143) (decoded (frame three (0xff ∷ 0xff ∷ 0x03 ∷ []) five))
@@ -70,6 +88,7 @@ rows =
     ∷ isR21 0xdd (cmpWindow (decimal 0 0) (decimal 5 2))
     ∷ isNone (cmpWindow (decimal 0 0) (decimal 2 2))
     ∷ isR21 0x06 (cmpWindow (decimal 1 0) (decimal 1 0))
+    ∷ isSum (pos 1) (decimal 953125 6) (addAgain joules (addTo freshAcc joules))
     ∷ []
 
 abbrev pub all : List Bool → Bool

@@ -4,7 +4,7 @@ use mathlib.Core.Bool.{false}
 use mathlib.Core.List.{[], _∷_}
 use Prim.Native.Nat.{_^_}
 use lib.Ieee.{binary32, ofBits, round, div}
-use Rattle.tables.specs.Decimal.{decimal}
+use Rattle.numbers.specs.Decimal.{decimal}
 use Rattle.tables.specs.Constants.{code, iContDefault, iFloor, floorI, noiseV, noiseI, zeroMaxRms, vcalMin, vcalMaxAc, vcalMaxDc, vcalPeakMax, vcalSpread, calPfMax, floatConstants}
 use Rattle.tables.specs.Decided.{decidedFloats, ad1Div, floorV}
 use Rattle.tables.specs.Description.{least, most}

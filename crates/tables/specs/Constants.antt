@@ -5,7 +5,7 @@ use Prim.Native.Nat.{ℕ, _%_}
 use lib.ListN.{getD}
 use lib.Ieee.{Float, binary32, ofBits}
 use Rattle.numbers.specs.Binary32.{_/f_}
-use Rattle.tables.specs.Decimal.{decimal}
+use Rattle.numbers.specs.Decimal.{decimal}
 use Rattle.tables.specs.Decided.{decidedFloats}
 
 -- ---- tables of floats, read by `entryAt`

@@ -1,7 +1,7 @@
 -- Constants of dmm.rs, which is not at hand: every one of them is decided (docs/DECISIONS.md), and stands here and in src/decided.rt.
 use mathlib.Core.List.{List, [], _∷_}
 use lib.Ieee.{Float, binary32, ofBits}
-use Rattle.tables.specs.Decimal.{decimal}
+use Rattle.numbers.specs.Decimal.{decimal}
 
 -- K_ACV, by V range: what the source's comments say of the AC V rows' taps; of range 0 that is a tap of 100 with an amplifier of ten
 unfoldable pub kAcv : List Float

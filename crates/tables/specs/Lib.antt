@@ -1,4 +1,3 @@
-pub mod Decimal
 pub mod Bounds
 pub mod Constants
 pub mod Decided

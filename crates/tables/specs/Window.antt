@@ -5,7 +5,7 @@ use Prim.Native.Nat.{ℕ, zero, suc, _+_, _*_, _<_}
 use lib.ListN.{getD}
 use lib.Ieee.{Float, nan, binary32, lt, le, ofBits}
 use Rattle.numbers.specs.Binary32.{_+f_, _-f_, _*f_}
-use Rattle.tables.specs.Decimal.{decimal, minusDecimal}
+use Rattle.numbers.specs.Decimal.{decimal, minusDecimal}
 use Rattle.tables.specs.declared.window.Side.{Side}
 use Rattle.tables.specs.declared.window.Side.the-variants.{Upper, Lower}
 use Rattle.tables.specs.declared.window.Pick.{Pick}

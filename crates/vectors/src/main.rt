@@ -1,6 +1,10 @@
 // Runs rows of document 01 and other figures from outside through the functions, and compares. It
 // writes the number of each row that differs, and at the end how many agreed and how many differed.
 use codes::Decoded;
+use figures::acc::Acc;
+use figures::acc::Added;
+use figures::tally::Accounted;
+use figures::tally::Tally;
 use refusals::Refusal;
 use tables::description::Description;
 use tables::window::Window;
@@ -215,13 +219,87 @@ fn description_rows(s: Score) -> Score {
     row(s, 55, refused(0.0 / 0.0))
 }
 
+// Whether the step that joins millijoules to a leaves this count and a fraction of these bits.
+fn sum_is(a: Acc, millijoules: f32, mj: i64, bits: u32) -> bool {
+    let answer = figures::acc::step(a, millijoules);
+    match answer {
+        Added::Sum(b, _) => {
+            if b.mj != mj {
+                return false;
+            }
+            has_bits(b.frac, bits)
+        }
+        Added::Full => false,
+    }
+}
+
+// Whether the step that joins millijoules to a is full.
+fn full(a: Acc, millijoules: f32) -> bool {
+    let answer = figures::acc::step(a, millijoules);
+    match answer {
+        Added::Sum(_, _) => false,
+        Added::Full => true,
+    }
+}
+
+// Whether dt ms more are counted after this time.
+fn counted(t_int: u64, dt: u64) -> bool {
+    let tally = Tally {
+        e: Acc::ZERO,
+        va: Acc::ZERO,
+        t_int,
+    };
+    match figures::tally::accounting_step(tally, dt, 0.0, 0.0, true) {
+        Accounted::Counted(_, _) => true,
+        Accounted::Refused => false,
+    }
+}
+
+// Row 61: document 01, a fresh accumulator and twice 1/1024 J. Rows 62 to 67: the sums of refusal 6,
+// "not finite or outside -2^63 <= sum < 2^63". Rows 68 and 69: counted time within signed 64 bits.
+fn acc_rows(s: Score) -> Score {
+    let once = figures::acc::after_add(Acc::ZERO, 0.0009765625);
+    let twice = figures::acc::after_add(once.acc, 0.0009765625);
+    let mut s = s;
+    s = row(s, 61, sum_is(twice.acc, 0.0, 1, 0x3f74_0000));
+    s = row(
+        s,
+        62,
+        sum_is(Acc::ZERO, -9223372036854775808.0, -9223372036854775808, 0),
+    );
+    s = row(s, 63, full(Acc::ZERO, -9223373136366403584.0));
+    s = row(s, 64, full(Acc::ZERO, 9223372036854775808.0));
+    s = row(
+        s,
+        65,
+        sum_is(Acc::ZERO, 9223371487098961920.0, 9223371487098961920, 0),
+    );
+    s = row(s, 66, full(Acc::ZERO, 1.0 / 0.0));
+    s = row(s, 67, full(Acc::ZERO, 0.0 / 0.0));
+    s = row(s, 68, counted(9223372036854775806, 1));
+    row(s, 69, !counted(9223372036854775806, 2))
+}
+
+// Rows 71 to 76: 3 V and 4 A of direct current in front of half an ohm. By Ohm's law 1 V is left at the
+// load, so 4 W and 4 VA, of which none is reactive.
+fn totals_rows(s: Score) -> Score {
+    let f = figures::load::totals(0.0, 0.0, 3.0, 0.0, 4.0, 0.5);
+    let mut s = s;
+    s = row(s, 71, has_bits(f.p, 0x4080_0000));
+    s = row(s, 72, has_bits(f.s, 0x4080_0000));
+    s = row(s, 73, has_bits(f.q, 0));
+    s = row(s, 74, has_bits(f.pf, 0x3f80_0000));
+    s = row(s, 75, has_bits(f.v, 0x3f80_0000));
+    row(s, 76, has_bits(f.i, 0x4080_0000))
+}
+
 fn main() {
     let s = rms_rows(code_rows(Score {
         agree: 0,
         differ: 0,
     }));
     let s = max_rows(root_rows(length_rows(s)));
-    let s = description_rows(window_rows(s));
+    let s = totals_rows(acc_rows(description_rows(window_rows(s))));
     io::print_decimal(1, s.agree);
     io::write_all(1, b" rows agree, ");
     io::print_decimal(1, s.differ);

@@ -1,0 +1,126 @@
+-- Document 01: "whole part plus fraction equals the rounded sum exactly". Of every sum that `accStep` counts, by the remainder's exactness and a little algebra with signs.
+use mathlib.Core.Bool.{Bool, true, false, _&&_, _||_, cond, false≢true}
+use mathlib.Core.Logic.{inl, inr}
+use mathlib.Core.Path.{_≡_, refl, sym, ap, _∙_, subst}
+use Prim.Native.Nat.{ℕ, zero, suc, _+_, _-_, _*_, _/_, _%_, _^_, _≤_, _<_, min}
+use native.Mathlib.Nat.{le-of-eq, le-of-lt, zero-mul, mul-right-comm, add-mul, div-add-mod', div-lt-iff-lt-mul, div-le-of-le-mul, eq-of-mul-eq-mul-right}
+use native.Mathlib.Omega.{arith}
+use borrow.Author.Tests.{ltb-true, eqb-true}
+use lib.Dec.{T, ltb, eqb}
+use lib.Ieee.Fits.{down-pos, add-fits}
+use lib.Ieee.{Float, nan, inf, fin, binary32, up, down, neg, ofInt, toSigned, fits, lt, le, eq, ofBits}
+use lib.IntN.{ℤ, pos, negℤ, _+ℤ_, _*ℤ_, negℤ-+ℤ, pos-+ℤ-pos, pos-*ℤ-pos, negsuc-*ℤ-pos}
+use Rattle.numbers.specs.Binary32.{isFinite, _+f_, _-f_}
+use Rattle.figures.specs.Acc.{two63, inI64, signed64, accStep}
+use Rattle.figures.specs.Exact.{signed, IsWholePlus, Exact}
+use Rattle.figures.specs.declared.acc.Acc.{Acc}
+use Rattle.figures.specs.declared.acc.Added.the-variants.{Sum, Full}
+use Rattle.figures.specs.declared.acc.Added.{Added}
+use Rattle.figures.proofs.Remainder.{Rest, held, rest-of}
+
+-- ---- signed whole numbers of one sign
+signed-mul : (s : Bool) (n k : ℕ) → signed s n *ℤ pos k ≡ signed s (n * k)
+signed-mul false n k = pos-*ℤ-pos n k
+signed-mul true zero k = pos-*ℤ-pos 0 k ∙ ap pos (zero-mul k) ∙ ap (λ (x : ℕ). negℤ (pos x)) (sym (zero-mul k))
+signed-mul true (suc n) k = negsuc-*ℤ-pos n k
+
+signed-add : (s : Bool) (a b : ℕ) → signed s a +ℤ signed s b ≡ signed s (a + b)
+signed-add false a b = pos-+ℤ-pos a b
+signed-add true a b = sym (negℤ-+ℤ (pos a) (pos b)) ∙ ap negℤ (pos-+ℤ-pos a b)
+
+signed-zero : (s t : Bool) (n : ℕ) → n ≡ 0 → signed s n ≡ signed t n
+signed-zero s t n z = ap (signed s) z ∙ plus-zero s ∙ sym (ap (signed t) z ∙ plus-zero t)
+  where
+    plus-zero : (u : Bool) → signed u 0 ≡ pos 0
+    plus-zero false = refl
+    plus-zero true = refl
+
+-- ---- a / d = a / d cut + n / g, where n / g is what is left, (a % d) / d
+parts : (a d n g : ℕ) → n * d ≡ a % d * g → (a / d * g + n) * d ≡ a * g
+parts a d n g h =
+    add-mul (a / d * g) n d ∙ ap (λ (x : ℕ). x + n * d) (mul-right-comm (a / d) g d) ∙ ap (λ (x : ℕ). a / d * d * g + x) h
+    ∙ sym (add-mul (a / d * d) (a % d) g) ∙ ap (λ (x : ℕ). x * g) (div-add-mod' a d)
+
+summed : (s t : Bool) (a d n g : ℕ) → signed t n ≡ signed s n → n * d ≡ a % d * g → signed s a *ℤ pos g ≡ (signed s (a / d) *ℤ pos g +ℤ signed t n) *ℤ pos d
+summed s t a d n g e h =
+    signed-mul s a g ∙ ap (signed s) (sym (parts a d n g h)) ∙ sym (signed-mul s (a / d * g + n) d)
+    ∙ ap (λ (z : ℤ). z *ℤ pos d) (sym (signed-add s (a / d * g) n) ∙ ap (λ (z : ℤ). z +ℤ signed s n) (sym (signed-mul s (a / d) g)) ∙ ap (λ (z : ℤ). signed s (a / d) *ℤ pos g +ℤ z) (sym e))
+
+whole-plus : (s : Bool) (m : ℕ) (e : ℤ) (r : Float) → Rest s (m * up e % down e) (down e) r → IsWholePlus (fin s m e) (signed s (m * up e / down e)) r
+unfolding IsWholePlus isFinite
+whole-plus s m e nan (inl v) = absurd v
+whole-plus s m e nan (inr v) = absurd (v .1)
+whole-plus s m e (inf t) (inl v) = absurd v
+whole-plus s m e (inf t) (inr v) = absurd (v .1)
+whole-plus s m e (fin t n g) (inl v) = (refl, summed s t (m * up e) (down e) (n * up g) (down g) (ap (λ (u : Bool). signed u (n * up g)) (v .0)) (v .1))
+whole-plus s m e (fin t n g) (inr v) =
+    let none : n * up g ≡ 0 = eq-of-mul-eq-mul-right (down e) (down-pos e) (n * up g) 0 (v .1 .1 ∙ ap (λ (x : ℕ). x * down g) (v .0) ∙ zero-mul (down g) ∙ sym (zero-mul (down e))) in
+    (refl, summed s t (m * up e) (down e) (n * up g) (down g) (signed-zero t s (n * up g) none) (v .1 .1))
+
+-- ---- Rust's `as i64` cuts where the float is in range
+capped : (i c : ℕ) → i < c → min i (c - 1) ≡ i
+capped i c h = omega arith
+
+capped-le : (i c : ℕ) → i ≤ c → min i c ≡ i
+capped-le i c h = omega arith
+
+or-le : (A B : ℕ) (q : Bool) → (ltb A B || (eqb B A && q)) ≡ true → A ≤ B
+or-le A B q h = go (ltb A B) (eqb B A) (ltb-true A B) (eqb-true B A) h
+  where
+    go : (x y : Bool) → (x ≡ true → A < B) → (y ≡ true → B ≡ A) → (x || (y && q)) ≡ true → A ≤ B
+    go true y f g k = le-of-lt (f refl)
+    go false true f g k = le-of-eq (sym (g refl))
+    go false false f g k = absurd (false≢true k)
+
+cut-is : (x : Float) → le (fin true 1 (pos 63)) x ≡ true → lt x (fin false 1 (pos 63)) ≡ true → T (fits binary32 x) → IsWholePlus x (toSigned 63 x) (x -f ofInt binary32 (toSigned 63 x))
+unfolding le lt eq toSigned
+cut-is nan l u F = absurd (false≢true u)
+cut-is (inf true) l u F = absurd (false≢true l)
+cut-is (inf false) l u F = absurd (false≢true u)
+cut-is (fin false m e) l u F =
+    let i = m * up e / down e in
+    let h : i < 2 ^ 63 = div-lt-iff-lt-mul (down-pos e) .1 (tidy (m * up e) (down e) (ltb-true (m * up e * 1) (2 ^ 63 * down e) u)) in
+    let w : pos (min i (2 ^ 63 - 1)) ≡ pos i = ap pos (capped i (2 ^ 63) h) in
+    subst (λ (z : ℤ). IsWholePlus (fin false m e) z (fin false m e -f ofInt binary32 z)) (sym w) (whole-plus false m e _ (rest-of false m e (held false m e F)))
+  where
+    tidy : (x y : ℕ) → x * 1 < 9223372036854775808 * y → x < 9223372036854775808 * y
+    tidy x y p = omega arith
+cut-is (fin true m e) l u F =
+    let i = m * up e / down e in
+    let h : i ≤ 2 ^ 63 = div-le-of-le-mul (down e) (tidy (m * up e) (down e) (or-le (m * up e * 1) (2 ^ 63 * down e) true l)) in
+    let w : negℤ (pos (min i (2 ^ 63))) ≡ negℤ (pos i) = ap (λ (z : ℕ). negℤ (pos z)) (capped-le i (2 ^ 63) h) in
+    subst (λ (z : ℤ). IsWholePlus (fin true m e) z (fin true m e -f ofInt binary32 z)) (sym w) (whole-plus true m e _ (rest-of true m e (held true m e F)))
+  where
+    tidy : (x y : ℕ) → x * 1 ≤ 9223372036854775808 * y → x ≤ y * 9223372036854775808
+    tidy x y p = omega arith
+
+two63-is : two63 ≡ fin false 1 (pos 63)
+unfolding ofBits
+two63-is = refl
+
+minus-two63-is : neg two63 ≡ fin true 1 (pos 63)
+unfolding ofBits neg
+minus-two63-is = refl
+
+in-range : (x : Float) → T (fits binary32 x) → le (neg two63) x ≡ true → lt x two63 ≡ true → IsWholePlus x (toSigned 63 x) (x -f ofInt binary32 (toSigned 63 x))
+in-range x F l u = cut-is x (ap (λ (z : Float). le z x) (sym minus-two63-is) ∙ l) (ap (λ (z : Float). lt x z) (sym two63-is) ∙ u) F
+
+-- ---- so it is of every step: there is a sum only where the tests hold
+pub exactly : (a : Acc) (millijoules : Float) → Exact a millijoules (accStep a millijoules)
+unfolding accStep Exact inI64
+exactly a j = go (le (neg two63) x) (lt x two63) (signed64 (a .mj +ℤ w)) (λ l u. in-range x (add-fits binary32 (a .frac) j) l u)
+  where
+    x : Float
+    x = a .frac +f j
+
+    w : ℤ
+    w = toSigned 63 x
+
+    go : (l u t : Bool) → (l ≡ true → u ≡ true → IsWholePlus x w (x -f ofInt binary32 w)) → Exact a j (cond (l && u && t) (Sum (record { mj = a .mj +ℤ w; frac = x -f ofInt binary32 w }) w) Full)
+    go true true true k = (refl, k refl refl)
+    go true true false k = tt
+    go true false t k = tt
+    go false u t k = tt
+
+pub with-exact : (a : Acc) (millijoules : Float) (r : Added) → r ≡ accStep a millijoules → (r ≡ accStep a millijoules) × Exact a millijoules r
+with-exact a j r e = (e, subst (λ (z : Added). Exact a j z) (sym e) (exactly a j))

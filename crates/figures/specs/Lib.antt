@@ -1,0 +1,5 @@
+pub mod Load
+pub mod Smoothing
+pub mod Acc
+pub mod Exact
+pub mod Tally

@@ -1,0 +1,16 @@
+-- Document 01: "Smoothing is `ema`". It is a function of dmm.rs, which is not at hand; decided (docs/DECISIONS.md) by the source's comment at `ema_rel`.
+use mathlib.Core.Bool.{cond}
+use lib.Ieee.{Float, binary32, lt, ofBits}
+use Rattle.numbers.specs.Binary32.{_+f_, _-f_, _*f_, absOf, maxOf}
+
+-- the smoothed value after x, where y was the one before: x itself where it lies further than win from y, else the part a of the way
+unfoldable pub ema : Float → Float → Float → Float → Float
+ema win a x y = cond (lt win (absOf (x -f y))) x (y +f a *f (x -f y))
+
+-- 0.05
+abbrev pub twentieth : Float
+twentieth = ofBits binary32 0x3d4c_cccd
+
+-- the source's `ema_rel`: "5 % of max(|x|, |y|, `floor`)"
+unfoldable pub emaRel : Float → Float → Float → Float → Float
+emaRel a floor x y = ema (twentieth *f maxOf (maxOf (absOf x) (absOf y)) floor) a x y
