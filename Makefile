@@ -29,13 +29,13 @@ run: build/pwscript
 	build/pwscript --echo < tests/example.script
 
 # All that the gate's host tests run.
-host: build/pwscript build/test_pw build/test_leaves \
-	build/sanitized/pwscript build/sanitized/test_pw build/sanitized/test_leaves
+host: build/pwscript build/figure_lines build/test_pw build/test_leaves build/test_figures \
+	build/sanitized/pwscript build/sanitized/test_pw build/sanitized/test_leaves build/sanitized/test_figures
 
 test:
 	bash .ci/run
 
-compare: build/pwscript
+compare: build/pwscript build/figure_lines
 	tests/compare.sh $(SEED) $(LINES)
 
 bench: build/bench build/pwscript
@@ -50,17 +50,26 @@ build/pwscript: $(PWSCRIPT) $(PW) $(LEAVES)
 build/sanitized/pwscript: $(PWSCRIPT) $(PW) $(LEAVES)
 	$(COMPILE) $(SANITIZED) -o $@ $(INPUTS)
 
-build/test_pw: tests/test_pw.c tests/bits.h tests/pages.h $(PW)
-	$(COMPILE) $(PLAIN) -o $@ $(INPUTS)
+build/test_pw: tests/test_pw.c tests/bits.h tests/energy.h tests/pages.h $(PW)
+	$(COMPILE) $(PLAIN) -o $@ $(INPUTS) -lm
 
-build/sanitized/test_pw: tests/test_pw.c tests/bits.h tests/pages.h $(PW)
-	$(COMPILE) $(SANITIZED) -o $@ $(INPUTS)
+build/sanitized/test_pw: tests/test_pw.c tests/bits.h tests/energy.h tests/pages.h $(PW)
+	$(COMPILE) $(SANITIZED) -o $@ $(INPUTS) -lm
 
 build/test_leaves: tests/test_leaves.c tests/bits.h tests/pages.h $(LEAVES)
 	$(COMPILE) $(PLAIN) -o $@ $(INPUTS) -lm
 
 build/sanitized/test_leaves: tests/test_leaves.c tests/bits.h tests/pages.h $(LEAVES)
 	$(COMPILE) $(SANITIZED) -o $@ $(INPUTS) -lm
+
+build/test_figures: tests/test_figures.c tests/bits.h tests/energy.h tests/floats.h $(PW) $(LEAVES)
+	$(COMPILE) $(PLAIN) -o $@ $(INPUTS) -lm
+
+build/sanitized/test_figures: tests/test_figures.c tests/bits.h tests/energy.h tests/floats.h $(PW) $(LEAVES)
+	$(COMPILE) $(SANITIZED) -o $@ $(INPUTS) -lm
+
+build/figure_lines: tests/figure_lines.c tests/bits.h tests/floats.h
+	$(COMPILE) $(PLAIN) -o $@ $(INPUTS) -lm
 
 build/bench: host/bench.c $(PW) $(LEAVES)
 	$(COMPILE) $(PLAIN) -o $@ $(INPUTS)

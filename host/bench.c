@@ -1,4 +1,4 @@
-/* bench: nanoseconds per call of pw_decode, of pw_cmp_window and of the leaves that compute. */
+/* bench: nanoseconds per call of the functions of pw.h and of the leaves that compute. */
 #define _POSIX_C_SOURCE 200809L
 #include "leaves.h"
 #include "pw.h"
@@ -33,15 +33,20 @@ static float some_float(uint32_t k)
         double start = seconds();                                                \
         for (uint32_t k = 0; k < CALLS; k++)                                     \
             sum = sum + (type)(expression);                                      \
-        printf("%-16s %6.2f ns\n", name, (seconds() - start) * 1e9 / CALLS);     \
+        printf("%-20s %6.2f ns\n", name, (seconds() - start) * 1e9 / CALLS);     \
     } while (0)
 
-int main(void)
+/* A figure below 16, with a fraction, from a counter. */
+static float some_figure(uint32_t k)
+{
+    return (float)(k * 2654435761u >> 8) * 0x1p-20f;
+}
+
+static void bench_codes_and_numbers(void)
 {
     static uint8_t frames[64][PW_FRAME_LENGTH];
     for (uint32_t k = 0; k < sizeof frames; k++)
         frames[k / PW_FRAME_LENGTH][k % PW_FRAME_LENGTH] = (uint8_t)(k * 2654435761u >> 24);
-    BENCH("(loop alone)", float, some_float(k));
     BENCH("pw_decode", uint64_t, pw_decode(frames[k % 64], PW_FRAME_LENGTH).rms);
     BENCH("pw_cmp_window", uint64_t, pw_cmp_window((float)(k % 4096) * 0x1p-10f - 2.0f, some_float(~k)).r21);
     BENCH("leaf_u64_to_f32", float, leaf_u64_to_f32(k * UINT64_C(0x9E3779B97F4A7C15)));
@@ -51,5 +56,27 @@ int main(void)
     BENCH("leaf_max", float, leaf_max(some_float(k), some_float(~k)));
     BENCH("leaf_sqrt", float, leaf_sqrt((float)(k + 1)));
     BENCH("leaf_hypot", float, leaf_hypot(some_float(k), some_float(~k)));
+}
+
+/* The energies are never full: they get less than 2^29 J in all, and the time is below 2^63 ms. */
+static void bench_figures(void)
+{
+    struct pw_acc acc = pw_acc_fresh();
+    struct leaf_tally tally = leaf_fresh_tally();
+    BENCH("leaf_totals", float,
+          leaf_totals(some_figure(k), some_figure(~k), 1.0f, some_figure(3 * k), 0.25f, 0.0625f).q);
+    BENCH("leaf_ema", float, leaf_ema(1.0f, 0.25f, some_figure(k), some_figure(k + 1)));
+    BENCH("leaf_ema_rel", float, leaf_ema_rel(0.25f, 1.0f, some_figure(k), some_figure(k + 1)));
+    BENCH("pw_acc_add", uint64_t, pw_acc_add(&acc, some_figure(k)));
+    BENCH("pw_acc_wh", float, pw_acc_wh((struct pw_acc){k * INT64_C(0x9E3779B9), some_figure(k)}));
+    BENCH("leaf_accounting_step", uint64_t,
+          (tally = leaf_accounting_step(tally, 1000, some_figure(k), some_figure(~k), true).tally).t_int);
+}
+
+int main(void)
+{
+    BENCH("(loop alone)", float, some_float(k));
+    bench_codes_and_numbers();
+    bench_figures();
     return 0;
 }

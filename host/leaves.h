@@ -1,9 +1,9 @@
 /* leaves.h: leaf functions of libleaves.a (`rt staticlib leaves`).
  *
  * They are exported so that they can be compared, function by function, with the published Rust (by
- * pwscript) and with the C compiler's arithmetic (by tests/test_leaves.c). They are no part of the
- * product's interface, pw.h. Each answers for every argument; float and double mean IEEE 754's
- * binary32 and binary64, and a NaN's sign and payload are not kept. */
+ * pwscript) and with the C compiler's arithmetic (by tests/test_leaves.c and tests/test_figures.c).
+ * They are no part of the product's interface, pw.h. Each answers for every argument; float and double
+ * mean IEEE 754's binary32 and binary64, and a NaN's sign and payload are not kept. */
 #ifndef LEAVES_H
 #define LEAVES_H
 
@@ -119,5 +119,64 @@ float leaf_dcv_negk(uint8_t vr);
 float leaf_acv_win(uint8_t vr);
 float leaf_aca_win(uint8_t ci);
 uint8_t leaf_cycle(uint8_t phase);
+
+/* Power, apparent and reactive power, factor, volts and amperes of the load, from the measured parts
+ * and the resistance r of the path, whose burden is taken off. In binary32, rounded at each operation:
+ * pm = p_ac + v_dc * i_dc, vm = leaf_hypot(v_ac, v_dc), i = leaf_hypot(i_ac, i_dc),
+ * p = pm - i * i * r, v = leaf_sqrt(leaf_max(vm * vm - 2 * r * pm + r * r * i * i, 0)), s = v * i,
+ * pf = p / s held to -1 and 1 where s > 0, else 0, and q = leaf_sqrt(leaf_max(s * s - p * p, 0)). */
+struct leaf_figures {
+    float p;
+    float s;
+    float q;
+    float pf;
+    float v;
+    float i;
+};
+struct leaf_figures leaf_totals(float p_ac, float v_ac, float v_dc, float i_ac, float i_dc, float r);
+
+/* Smoothing of y toward x: x where abs(x - y) > win, else y + a * (x - y). */
+float leaf_ema(float win, float a, float x, float y);
+
+/* leaf_ema with win = 0.05 * max(max(abs x, abs y), floor). */
+float leaf_ema_rel(float a, float floor, float x, float y);
+
+/* An energy: whole millijoules and a fraction of one. */
+struct leaf_acc {
+    int64_t mj;
+    float frac;
+};
+
+/* x = frac + millijoules in binary32 and w, x cut toward zero: refusal 0, the energy mj + w and x - w,
+ * and w in `whole`. Or refusal 6, the energy as it was and `whole` 0, where x is not finite or not
+ * -2^63 <= x < 2^63, or mj + w does not fit in 64 signed bits. */
+struct leaf_added {
+    uint8_t refusal;
+    struct leaf_acc acc;
+    int64_t whole;
+};
+struct leaf_added leaf_acc_step(struct leaf_acc a, float millijoules);
+
+/* leaf_acc_step with joules * 1000 in binary32. */
+struct leaf_added leaf_add_to(struct leaf_acc a, float joules);
+
+/* What is counted: an energy, an apparent energy, and the time in ms. */
+struct leaf_tally {
+    struct leaf_acc e;
+    struct leaf_acc va;
+    uint64_t t_int;
+};
+struct leaf_tally leaf_fresh_tally(void);
+
+/* One interval of dt ms; its seconds are dt to the nearest float, times 0.001. Where `active`, e gets
+ * p * seconds joules, else it stays; va gets s * seconds, t_int gets dt, and `whole` is what was added
+ * to e's millijoules. Or refusal 6, the tally as it was and `whole` 0, where an energy that
+ * gets something is full or t_int + dt is not below 2^63. */
+struct leaf_accounted {
+    uint8_t refusal;
+    struct leaf_tally tally;
+    int64_t whole;
+};
+struct leaf_accounted leaf_accounting_step(struct leaf_tally t, uint64_t dt, float p, float s, bool active);
 
 #endif

@@ -167,6 +167,53 @@ static bool f_v_gain(const struct word *argument)
     return meter.made && read_u8(argument[0], &vr) && write_float(leaf_v_gain(meter.calibration, meter.gains, vr));
 }
 
+/* PAC VAC VDC IAC IDC R */
+static bool f_totals(const struct word *argument)
+{
+    float part[6];
+    if (!read_floats(argument, part, 6))
+        return false;
+    struct leaf_figures t = leaf_totals(part[0], part[1], part[2], part[3], part[4], part[5]);
+    return write_floats((float[]){t.p, t.s, t.q, t.pf, t.v, t.i}, 6);
+}
+
+/* WIN A X Y */
+static bool f_ema(const struct word *argument)
+{
+    float x[4];
+    return read_floats(argument, x, 4) && write_float(leaf_ema(x[0], x[1], x[2], x[3]));
+}
+
+/* A FLOOR X Y */
+static bool f_ema_rel(const struct word *argument)
+{
+    float x[4];
+    return read_floats(argument, x, 4) && write_float(leaf_ema_rel(x[0], x[1], x[2], x[3]));
+}
+
+/* MJ FRAC */
+static bool read_energy(const struct word *argument, struct pw_acc *acc)
+{
+    return read_i64(argument[0], &acc->mj) && read_float(argument[1], &acc->frac);
+}
+
+/* MJ FRAC J */
+static bool f_acc(const struct word *argument)
+{
+    struct pw_acc acc;
+    float joules;
+    if (!read_energy(argument, &acc) || !read_float(argument[2], &joules))
+        return false;
+    bool fits = pw_acc_add(&acc, joules) == PW_DONE;
+    return write_energy(fits, acc.mj, acc.frac);
+}
+
+static bool f_acc_wh(const struct word *argument)
+{
+    struct pw_acc acc;
+    return read_energy(argument, &acc) && write_float(pw_acc_wh(acc));
+}
+
 /* The served functions: name, number of arguments, and the handler, which
  * writes the answer, or writes nothing and returns false. */
 static const struct {
@@ -193,6 +240,11 @@ static const struct {
     {"cal", 2, f_cal},
     {"v_gain_factory", 1, f_v_gain_factory},
     {"v_gain", 1, f_v_gain},
+    {"totals", 6, f_totals},
+    {"ema", 4, f_ema},
+    {"ema_rel", 4, f_ema_rel},
+    {"acc", 3, f_acc},
+    {"acc_wh", 2, f_acc_wh},
 };
 
 /* ---- commands: the first word of a line ---- */

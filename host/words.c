@@ -101,6 +101,14 @@ bool read_float(struct word w, float *x)
     return true;
 }
 
+bool read_floats(const struct word *w, float *x, size_t count)
+{
+    for (size_t k = 0; k < count; k++)
+        if (!read_float(w[k], &x[k]))
+            return false;
+    return true;
+}
+
 bool read_bool(struct word w, bool *yes)
 {
     *yes = word_is(w, "1");
@@ -212,15 +220,29 @@ bool read_calibration_words(struct word w, struct calibration_words *words)
 
 /* ---- writing ---- */
 
-bool write_float(float x)
+/* A space, and the float. */
+static void print_float(float x)
 {
     uint32_t bits;
     memcpy(&bits, &x, sizeof bits);
     if (isnan(x))
-        printf("= nan\n");
+        printf(" nan");
     else
-        printf("= %08" PRIx32 "\n", bits);
+        printf(" %08" PRIx32, bits);
+}
+
+bool write_floats(const float *x, size_t count)
+{
+    putchar('=');
+    for (size_t k = 0; k < count; k++)
+        print_float(x[k]);
+    putchar('\n');
     return true;
+}
+
+bool write_float(float x)
+{
+    return write_floats(&x, 1);
 }
 
 bool write_int(int64_t n)
@@ -241,6 +263,18 @@ bool write_found(bool found, uint8_t code)
         printf("= %02x\n", code);
     else
         printf("= none\n");
+    return true;
+}
+
+bool write_energy(bool fits, int64_t mj, float frac)
+{
+    if (fits) {
+        printf("= %" PRId64, mj);
+        print_float(frac);
+        putchar('\n');
+    } else {
+        printf("= full\n");
+    }
     return true;
 }
 

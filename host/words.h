@@ -32,6 +32,9 @@ bool read_bytes(struct word w, uint8_t *bytes, size_t count);
 /* The bits of a float as 8 hex digits, or `nan`. */
 bool read_float(struct word w, float *x);
 
+/* A float from each of `count` words. */
+bool read_floats(const struct word *w, float *x, size_t count);
+
 /* 0 or 1. */
 bool read_bool(struct word w, bool *yes);
 
@@ -56,11 +59,15 @@ bool read_calibration_words(struct word w, struct calibration_words *words);
 /* ---- writing: always true, so that a handler ends with it ---- */
 
 bool write_float(float x);
+bool write_floats(const float *x, size_t count);
 bool write_int(int64_t n);
 bool write_pair(uint8_t a, uint8_t b);
 
 /* Two hex digits, or `none` where nothing was found. */
 bool write_found(bool found, uint8_t code);
+
+/* Millijoules and the fraction, or `full` where an addition did not fit. */
+bool write_energy(bool fits, int64_t mj, float frac);
 
 /* The answer to a call that gives no mark, used no frame and has no reading. */
 bool write_refusal(uint8_t refusal);

@@ -17,8 +17,8 @@
 extern "C" {
 #endif
 
-/* Refusals: the numbers of the whole product. Today only PW_DONE and PW_FRAME
- * can be returned. */
+/* Refusals: the numbers of the whole product. Today only PW_DONE, PW_FRAME and
+ * PW_FULL can be returned. */
 #define PW_DONE 0        /* not refused */
 #define PW_OFF 1         /* frame, job start or phase start while not on */
 #define PW_BUSY 2        /* job start or re-apply while a job runs */
@@ -116,6 +116,41 @@ uint8_t pw_row_kind(bool alt, bool dc, uint8_t job, uint8_t step, bool job_dc,
 /* R36 of a signed number of phase steps: their size, at most 127, and bit 7
  * where they are above zero. */
 uint8_t pw_r36_of(int8_t steps);
+
+/* An energy, for a host that counts one of its own: mj + frac millijoules. The
+ * whole ones and the fraction of one are kept apart, since a float alone would
+ * soon be too large for a small addition to move it. */
+struct pw_acc {
+    int64_t mj;
+    float frac; /* of either sign; below 1 in size after an add that is done */
+};
+
+/* An energy of zero: 0 mJ and 0.0. */
+struct pw_acc pw_acc_fresh(void);
+
+/* Adds `joules` to the energy at `acc`.
+ *
+ * Takes:   `acc`, where one record can be read and written. It must not be NULL
+ *          and must be aligned, and nothing else may read or write the record
+ *          during the call. Any float `joules`, also below zero.
+ * Returns: PW_DONE; or PW_FULL, where the sum x = frac + joules * 1000, both
+ *          operations rounded to binary32, is not finite or not
+ *          -2^63 <= x < 2^63, or where mj + w does not fit in 64 signed bits;
+ *          w is x cut toward zero. A record whose `frac` is a NaN or infinite
+ *          is full for every add.
+ * Leaves:  with PW_DONE mj + w in `mj` and x - w in `frac`, and w + frac is
+ *          exactly x: nothing is lost but by the two roundings of x. With
+ *          PW_FULL the record as it was; a NaN in `frac` stays a NaN. No byte
+ *          beside the record is read or written. */
+uint8_t pw_acc_add(struct pw_acc *acc, float joules);
+
+/* The energy in watt hours.
+ *
+ * Takes:   any record.
+ * Returns: (mj + frac) / 3.6e6 in binary64, rounded at each operation, `mj`
+ *          too; then rounded to binary32. A NaN where `frac` is one, and
+ *          infinite where `frac` is. */
+float pw_acc_wh(struct pw_acc acc);
 
 #ifdef __cplusplus
 }

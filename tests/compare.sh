@@ -1,6 +1,7 @@
 #!/bin/bash
-# tests/compare.sh SEED LINES [PROGRAM]: LINES random lines of served functions and of meters made, answered
-# by the published Rust (../shared/oracle, built here) and by PROGRAM (build/pwscript); byte for byte the same?
+# tests/compare.sh SEED LINES [PROGRAM]: LINES random lines of the figures with floats of any bits
+# (build/figure_lines), then LINES of served functions and of meters made, answered by the published Rust
+# (../shared/oracle, built here) and by PROGRAM (build/pwscript); byte for byte the same?
 set -u -o pipefail
 cd "$(dirname "$0")/.." || exit 1
 . tests/answers.sh
@@ -10,10 +11,18 @@ seed=${1-} lines=${2-} program=${3-build/pwscript}
 work=$(mktemp -d) || exit 1
 trap 'rm -rf "$work"' EXIT
 
+# compare WHAT: the two programs' answers to $work/questions
+compare() {
+    [ "$(wc -l < "$work/questions")" -eq "$lines" ] || fail "there are not $lines lines of $1"
+    "$oracle_folder/pworacle" < "$work/questions" > "$work/oracle" || fail "the oracle failed"
+    "$program" < "$work/questions" > "$work/answers" || fail "$program failed"
+    same_answers "$work/questions" "$work/oracle" "$work/answers" || fail "seed $seed, $1: $program and the oracle differ"
+}
+
 build_oracle
+build/figure_lines "$seed" "$lines" > "$work/questions" || fail "figure_lines failed"
+compare "figures with floats of any bits"
+echo "compare: seed $seed, $lines lines of figures with floats of any bits, no difference"
 served_lines "$seed" "$lines" > "$work/questions" || fail "pwgen failed"
-[ "$(wc -l < "$work/questions")" -eq "$lines" ] || fail "pwgen did not give $lines lines of served functions"
-"$oracle_folder/pworacle" < "$work/questions" > "$work/oracle" || fail "the oracle failed"
-"$program" < "$work/questions" > "$work/answers" || fail "$program failed"
-same_answers "$work/questions" "$work/oracle" "$work/answers" || fail "seed $seed: $program and the oracle differ"
-echo "compare: seed $seed, $lines lines, $(meters "$work/questions") of them meters, no difference ($("$oracle_folder/pworacle" --source))"
+compare "served functions"
+echo "compare: seed $seed, $lines lines, $(meters "$work/questions") of them meters, and as many of figures, no difference ($("$oracle_folder/pworacle" --source))"

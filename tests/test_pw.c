@@ -2,10 +2,12 @@
  *
  * Each frame lies at the end or at the start of a page that cannot be written,
  * with pages that cannot be read on both sides (pages.h); a frame of a wrong
- * length lies where nothing can be read.
+ * length lies where nothing can be read. So does an energy, in a page that can
+ * be written.
  */
 #define _DEFAULT_SOURCE
 #include "bits.h"
+#include "energy.h"
 #include "pages.h"
 #include "pw.h"
 
@@ -25,6 +27,9 @@ _Static_assert(sizeof(struct pw_codes) == 24, "pw_codes");
 _Static_assert(offsetof(struct pw_window, found) == 0, "found");
 _Static_assert(offsetof(struct pw_window, r21) == 1, "r21");
 _Static_assert(sizeof(struct pw_window) == 2, "pw_window");
+_Static_assert(offsetof(struct pw_acc, mj) == 0, "mj");
+_Static_assert(offsetof(struct pw_acc, frac) == 8, "frac");
+_Static_assert(sizeof(struct pw_acc) == 16, "pw_acc");
 _Static_assert(FLT_EVAL_METHOD == 0, "each operation is rounded to its type");
 
 /* ---- counting ---- */
@@ -378,6 +383,126 @@ static void test_r36(void)
     }
 }
 
+/* ---- energies ---- */
+
+/* Bit by bit, a NaN's too; what lies between the fields and after them is no
+ * part of the energy. */
+static bool same_acc(struct pw_acc a, int64_t mj, float frac)
+{
+    return a.mj == mj && bits32(a.frac) == bits32(frac);
+}
+
+/* Adds to the energy at `acc` and checks what is returned and left, against
+ * whole numbers; returns the refusal. */
+static uint8_t check_add(struct pw_acc *acc, float joules, const char *what)
+{
+    struct pw_acc before = *acc;
+    float millijoules = joules * 1000.0f, x = before.frac + millijoules;
+    struct step step = expected_step(before.mj, x);
+    uint8_t refusal = pw_acc_add(acc, joules);
+    bool holds = step.fits ? refusal == PW_DONE && same_acc(*acc, step.mj, step.frac)
+                           : refusal == PW_FULL && same_acc(*acc, before.mj, before.frac);
+    if (step.fits)
+        holds = holds && sums_exactly((int64_t)((uint64_t)acc->mj - (uint64_t)before.mj), acc->frac, x);
+    if (check(holds, what) || failures > 20)
+        return refusal;
+    printf("  %" PRId64 " %08" PRIx32 " and %08" PRIx32 " J: %d, %" PRId64 " %08" PRIx32 "\n", before.mj,
+           bits32(before.frac), bits32(joules), refusal, acc->mj, bits32(acc->frac));
+    return refusal;
+}
+
+/* Document 01's row, and watt hours; tests/test_figures.c has more of these. */
+static void test_acc_rows(void)
+{
+    struct pw_acc acc = pw_acc_fresh();
+    check(same_acc(acc, 0, 0.0f), "a fresh energy");
+    check(pw_acc_add(&acc, 0x1p-10f) == PW_DONE && same_acc(acc, 0, 0.9765625f), "1/1024 J");
+    check(pw_acc_add(&acc, 0x1p-10f) == PW_DONE && same_acc(acc, 1, 0.953125f), "twice 1/1024 J");
+    acc = pw_acc_fresh();
+    check(same_acc(acc, 0, 0.0f) && bits32(pw_acc_wh(acc)) == 0, "a fresh energy again");
+    check(pw_acc_add(&acc, 3600.0f) == PW_DONE && same_acc(acc, 3600000, 0.0f), "3600 J");
+    check(pw_acc_wh(acc) == 1.0f, "one watt hour");
+    check(pw_acc_add(&acc, -7200.0f) == PW_DONE && same_acc(acc, -3600000, 0.0f), "less 7200 J");
+    check(pw_acc_wh(acc) == -1.0f, "minus one watt hour");
+    check(bits32(pw_acc_wh((struct pw_acc){0, -0.0f})) == 0, "minus zero");
+    check(pw_acc_wh((struct pw_acc){INT64_MAX, 0.5f}) == 0x1p63f / 3.6e6f, "the most watt hours");
+    check(isnan(pw_acc_wh((struct pw_acc){0, NAN})), "no watt hours of a NaN");
+}
+
+/* Counts and fractions at which a sum just fits, and just does not. */
+static const int64_t counts[] = {0, 1, -1, INT64_MAX, INT64_MAX - 1, INT64_MIN, INT64_MIN + 1, INT64_C(1) << 39,
+                                 (INT64_C(1) << 39) - 1, -(INT64_C(1) << 40), INT64_C(1) << 62};
+static const uint32_t fractions[] = {0x00000000, 0x00000001, 0x3A800000, 0x3F000000, 0x3F7FFFFF, 0x3F800000,
+                                     0x3A83126F, 0x4B7FFFFF, 0x4B800001, 0x5A03126F, 0x5A031270, 0x5EFFFFFF,
+                                     0x5F000000, 0x5F000001, 0x7F7FFFFF, 0x7F800000, 0x7F800001, 0x7FC00000,
+                                     0x7FFFFFFF};
+enum { COUNTS = sizeof counts / sizeof counts[0], FRACTIONS = sizeof fractions / sizeof fractions[0] };
+
+/* Every choice of these, with the fractions as joules too, all of either sign.
+ * Some are full, and some are not. */
+static void check_edges(struct pw_acc *acc, const char *what)
+{
+    uint64_t full = 0, all = 0;
+    for (size_t c = 0; c < COUNTS; c++)
+        for (uint32_t f = 0; f < 2 * FRACTIONS; f++)
+            for (uint32_t j = 0; j < 2 * FRACTIONS; j++, all++) {
+                acc->mj = counts[c];
+                acc->frac = float_of(fractions[f / 2] | f << 31);
+                full += check_add(acc, float_of(fractions[j / 2] | j << 31), what) != PW_DONE;
+            }
+    check(full > all / 4 && full < all, "full at some edges");
+}
+
+/* An energy at both ends of a page: nothing beside it is read or written. And
+ * one that is aligned to 8 bytes and not to 16: more is not asked for. */
+static void test_acc_guarded(struct pages p)
+{
+    protect(p, PROT_READ | PROT_WRITE);
+    check_edges((struct pw_acc *)(void *)p.page, "an energy at the start of a page");
+    check_edges((struct pw_acc *)(void *)(p.page + p.size - sizeof(struct pw_acc)), "an energy at the end of a page");
+    check_edges((struct pw_acc *)(void *)(p.page + 8), "an energy aligned to 8 bytes");
+}
+
+/* One energy of several: whether it is full or not, the bytes of the others are
+ * not written. */
+static void check_neighbours(int value, struct pw_acc acc)
+{
+    enum { ENERGIES = 9, MIDDLE = 4 };
+    struct pw_acc all[ENERGIES];
+    uint8_t before[MIDDLE * sizeof acc];
+    memset(all, value, sizeof all);
+    memset(before, value, sizeof before);
+    all[MIDDLE] = acc;
+    check_add(&all[MIDDLE], 0x1p-10f, "an energy among others");
+    check(memcmp(all, before, sizeof before) == 0 && memcmp(all + MIDDLE + 1, before, sizeof before) == 0,
+          "the energies beside it are as they were");
+}
+
+static void test_acc_neighbours(void)
+{
+    for (int value = 0; value < 256; value += 51)
+        for (size_t c = 0; c < COUNTS; c++)
+            for (uint32_t f = 0; f < 2 * FRACTIONS; f++)
+                check_neighbours(value, (struct pw_acc){counts[c], float_of(fractions[f / 2] | f << 31)});
+}
+
+/* Four million additions in sequence. One energy starts at nothing and gets
+ * watts over seconds; the other is set to an end and its neighbours now and
+ * then, gets anything, and is left as it is where it was full. */
+static void test_acc_sequence(void)
+{
+    uint64_t state = 3, refused = 0;
+    struct pw_acc small = pw_acc_fresh(), large = pw_acc_fresh();
+    for (int n = 0; n < 2000000; n++) {
+        uint64_t r = next(&state);
+        refused += check_add(&small, (float)(int32_t)(uint32_t)r * 0x1p-26f + 3.0f, "a small addition") != PW_DONE;
+        if (r >> 56 == 0)
+            large = (struct pw_acc){counts[(r >> 32 & 0xFF) % COUNTS], 0.5f};
+        check_add(&large, float_of((uint32_t)(r >> 16)), "an addition");
+    }
+    check(refused == 0 && small.mj > 5000000, "the small additions are counted");
+}
+
 int main(void)
 {
     setvbuf(stdout, NULL, _IOLBF, 0);
@@ -396,6 +521,10 @@ int main(void)
     test_row_numbers();
     test_row_kind();
     test_r36();
+    test_acc_rows();
+    test_acc_guarded(pages);
+    test_acc_neighbours();
+    test_acc_sequence();
     printf("test_pw: %" PRIu64 " checks, %" PRIu64 " failed\n", checks, failures);
     return failures == 0 ? 0 : 1;
 }

@@ -84,10 +84,8 @@ done < tests/served
 
 # Lines of the protocol that are not served yet: a name that comes to tests/served leaves this list.
 for line in \
-    'f ema 3f800000 3f000000 3f800000 00000000' 'f ema_rel 3e800000 3f800000 3f800000 3f800000' \
-    'f totals 3f800000 3f800000 3f800000 3f800000 3f800000 3f800000' \
     'f energy_format 3f000000 0' 'f p_format 3f800000 3f800000 0' 'f cal_outcome 42fefae1' \
-    'f acc 0 00000000 3a800000' 'f acc_wh 5 00000000' 'f no_neg_zero 80000000 3' 'f coup_name 3' 'f bt_mode 0 3' \
+    'f no_neg_zero 80000000 3' 'f coup_name 3' 'f bt_mode 0 3' \
     'f vals 1 1 0 0 0 0 3f800000 3f800000 3f800000 3f800000 3f800000 3f800000' 'f zero' 'f ring_text' 'f knobs' \
     'on 0' 'off 0' 'method 0 1' \
     'coupling 0 1' 'zero 0' 'gain 0' 'reapply 0' 'ranges 0 k a' 'phase' 'ereset' 'run 1' \
@@ -141,6 +139,67 @@ for float in 0 4040000 404000000 0x404000 4040000g +4040000 -4040000 NaN NAN nan
     bad "f sqrt $float"
     bad "f max $float 00000000"
     bad "f max 00000000 $float"
+done
+
+# Figures. spoiled NAME ARGUMENT..: with any argument left out, doubled, or neither a float nor a whole
+# number, the line is not understood.
+spoiled() {
+    local name=$1 k word
+    local -a arguments
+    shift
+    for ((k = 1; k <= $#; k++)); do
+        bad "f $name ${*:1:k-1} ${*:k+1}"
+        bad "f $name ${*:1:k} ${*:k}"
+        for word in 3f80000 3f8000000 3f80000g 0x3f8000 +3f80000 -3f80000 NaN nan0 inf full 1.0 - '3f80\0000000'; do
+            arguments=("$@")
+            arguments[k - 1]=$word
+            bad "f $name ${arguments[*]}"
+        done
+    done
+}
+spoiled totals 40400000 40a00000 00000000 3f800000 00000000 00000000
+spoiled ema 3f800000 3f000000 40400000 40000000
+spoiled ema_rel 3f000000 41a00000 40400000 40000000
+spoiled acc 0 00000000 3a800000
+spoiled acc_wh 3600000 00000000
+
+# Each argument in its place; of six answers each in its place.
+good 'f totals 40400000 40a00000 00000000 3f800000 00000000 00000000' '= 40400000 40a00000 40800000 3f19999a 40a00000 3f800000'
+good 'f totals c0c00000 40400000 40800000 00000000 C0000000 3F800000' '= c1900000 4171983e 00000000 bf800000 40f1983e 40000000'
+good 'f ema 3f800000 3f000000 40400000 40000000' '= 40200000'
+good 'f ema 3F800000 3F000000 40400001 40000000' '= 40400001'
+good 'f ema_rel 3f000000 41a00000 40400000 40000000' '= 40200000'
+good 'f ema_rel 3f000000 40000000 40400000 40000000' '= 40400000'
+good 'f acc 0 3f7a0000 3a800000' '= 1 3f740000'
+good 'f acc_wh 3600000 00000000' '= 3f800000'
+
+# nan in each place where a float may be.
+good 'f ema nan 3f000000 40400000 40000000' '= 40200000'
+good 'f ema 3f800000 nan 40400000 40000000' '= nan'
+good 'f ema 3f800000 3f000000 nan 40000000' '= nan'
+good 'f ema 3f800000 3f000000 40400000 nan' '= nan'
+good 'f ema_rel nan 41a00000 40400000 40000000' '= nan'
+good 'f ema_rel 3f000000 nan 41a00000 41980000' '= 419c0000'
+good 'f ema_rel 3f000000 41a00000 nan nan' '= nan'
+good 'f totals nan 40a00000 00000000 3f800000 00000000 00000000' '= nan 00000000 00000000 00000000 00000000 3f800000'
+good 'f totals 40400000 nan 00000000 3f800000 00000000 00000000' '= 40400000 00000000 00000000 00000000 00000000 3f800000'
+good 'f totals 40400000 40a00000 00000000 nan 00000000 00000000' '= nan nan 00000000 00000000 00000000 nan'
+good 'f acc 0 nan 3a800000' '= full'
+good 'f acc 0 3f7a0000 nan' '= full'
+good 'f acc_wh 0 nan' '= nan'
+
+# Millijoules: both ends of 64 bits, and what is not understood one past them.
+good 'f acc 9223372036854775807 00000000 00000000' '= 9223372036854775807 00000000'
+good 'f acc 9223372036854775807 00000000 3a83126f' '= full'
+good 'f acc -9223372036854775808 80000000 80000000' '= -9223372036854775808 80000000'
+good 'f acc +0009223372036854775807 00000000 ba83126f' '= 9223372036854775806 00000000'
+good 'f acc -0 00000000 00000000' '= 0 00000000'
+good 'f acc_wh 9223372036854775807 00000000' '= 5415217d'
+good 'f acc_wh -9223372036854775808 00000000' '= d415217d'
+good 'f acc_wh -0 80000000' '= 00000000'
+for number in 9223372036854775808 -9223372036854775809 18446744073709551616 - + +-1 -+1 --1 1.0 1e3 0x1 1f nan '1\0000' ''; do
+    bad "f acc $number 00000000 00000000"
+    bad "f acc_wh $number 00000000"
 done
 
 # Meters. Before one is made, and after a refused one, there is no gain in force.

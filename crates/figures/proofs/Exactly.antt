@@ -3,16 +3,16 @@ use mathlib.Core.Bool.{Bool, true, false, _&&_, _||_, cond, false≢true}
 use mathlib.Core.Logic.{inl, inr}
 use mathlib.Core.Path.{_≡_, refl, sym, ap, _∙_, subst}
 use Prim.Native.Nat.{ℕ, zero, suc, _+_, _-_, _*_, _/_, _%_, _^_, _≤_, _<_, min}
-use native.Mathlib.Nat.{le-of-eq, le-of-lt, zero-mul, mul-right-comm, add-mul, div-add-mod', div-lt-iff-lt-mul, div-le-of-le-mul, eq-of-mul-eq-mul-right}
+use native.Mathlib.Nat.{le-of-eq, le-of-lt, zero-mul, mul-comm, mul-right-comm, mul-lt-mul-of-pos-right, lt-of-mul-lt-mul-right, mod-lt, add-mul, div-add-mod', div-lt-iff-lt-mul, div-le-of-le-mul, eq-of-mul-eq-mul-right}
 use native.Mathlib.Omega.{arith}
-use borrow.Author.Tests.{ltb-true, eqb-true}
+use borrow.Author.Tests.{lt-ltb, ltb-true, eqb-true}
 use lib.Dec.{T, ltb, eqb}
 use lib.Ieee.Fits.{down-pos, add-fits}
 use lib.Ieee.{Float, nan, inf, fin, binary32, up, down, neg, ofInt, toSigned, fits, lt, le, eq, ofBits}
 use lib.IntN.{ℤ, pos, negℤ, _+ℤ_, _*ℤ_, negℤ-+ℤ, pos-+ℤ-pos, pos-*ℤ-pos, negsuc-*ℤ-pos}
-use Rattle.numbers.specs.Binary32.{isFinite, _+f_, _-f_}
-use Rattle.figures.specs.Acc.{two63, inI64, signed64, accStep}
-use Rattle.figures.specs.Exact.{signed, IsWholePlus, Exact}
+use Rattle.numbers.specs.Binary32.{oneF, isFinite, absOf, _+f_, _-f_, _*f_}
+use Rattle.figures.specs.Acc.{two63, inI64, signed64, accStep, thousand, addTo, addedNumber, addedAcc}
+use Rattle.figures.specs.Exact.{signed, IsWholePlus, Exact, ExactAfter}
 use Rattle.figures.specs.declared.acc.Acc.{Acc}
 use Rattle.figures.specs.declared.acc.Added.the-variants.{Sum, Full}
 use Rattle.figures.specs.declared.acc.Added.{Added}
@@ -46,16 +46,34 @@ summed s t a d n g e h =
     signed-mul s a g ∙ ap (signed s) (sym (parts a d n g h)) ∙ sym (signed-mul s (a / d * g + n) d)
     ∙ ap (λ (z : ℤ). z *ℤ pos d) (sym (signed-add s (a / d * g) n) ∙ ap (λ (z : ℤ). z +ℤ signed s n) (sym (signed-mul s (a / d) g)) ∙ ap (λ (z : ℤ). signed s (a / d) *ℤ pos g +ℤ z) (sym e))
 
+-- what is left of a / d is below one
+below-one : (t : Bool) (n : ℕ) (g : ℤ) (f d : ℕ) → f < d → n * up g * d ≡ f * down g → lt (absOf (fin t n g)) oneF ≡ true
+unfolding lt absOf ofBits
+below-one t n g f d l h = lt-ltb (n * up g * 1) (1 * 1 * down g) (tidy (n * up g) (down g) (lt-of-mul-lt-mul-right d less))
+  where
+    less : n * up g * d < down g * d
+    less = subst (λ (x : ℕ). x < down g * d) (sym h) (subst (λ (x : ℕ). f * down g < x) (mul-comm d (down g)) (mul-lt-mul-of-pos-right l (down-pos g)))
+
+    tidy : (x y : ℕ) → x < y → x * 1 < 1 * 1 * y
+    tidy x y p = omega arith
+
 whole-plus : (s : Bool) (m : ℕ) (e : ℤ) (r : Float) → Rest s (m * up e % down e) (down e) r → IsWholePlus (fin s m e) (signed s (m * up e / down e)) r
 unfolding IsWholePlus isFinite
 whole-plus s m e nan (inl v) = absurd v
 whole-plus s m e nan (inr v) = absurd (v .1)
 whole-plus s m e (inf t) (inl v) = absurd v
 whole-plus s m e (inf t) (inr v) = absurd (v .1)
-whole-plus s m e (fin t n g) (inl v) = (refl, summed s t (m * up e) (down e) (n * up g) (down g) (ap (λ (u : Bool). signed u (n * up g)) (v .0)) (v .1))
+whole-plus s m e (fin t n g) (inl v) = (
+  refl,
+  below-one t n g (m * up e % down e) (down e) (mod-lt (m * up e) (down-pos e)) (v .1),
+  summed s t (m * up e) (down e) (n * up g) (down g) (ap (λ (u : Bool). signed u (n * up g)) (v .0)) (v .1),
+)
 whole-plus s m e (fin t n g) (inr v) =
-    let none : n * up g ≡ 0 = eq-of-mul-eq-mul-right (down e) (down-pos e) (n * up g) 0 (v .1 .1 ∙ ap (λ (x : ℕ). x * down g) (v .0) ∙ zero-mul (down g) ∙ sym (zero-mul (down e))) in
-    (refl, summed s t (m * up e) (down e) (n * up g) (down g) (signed-zero t s (n * up g) none) (v .1 .1))
+    let none : n * up g ≡ 0 = eq-of-mul-eq-mul-right (down e) (down-pos e) (n * up g) 0 (v .1 .1 ∙ ap (λ (x : ℕ). x * down g) (v .0) ∙ zero-mul (down g) ∙ sym (zero-mul (down e))) in (
+      refl,
+      below-one t n g (m * up e % down e) (down e) (mod-lt (m * up e) (down-pos e)) (v .1 .1),
+      summed s t (m * up e) (down e) (n * up g) (down g) (signed-zero t s (n * up g) none) (v .1 .1),
+    )
 
 -- ---- Rust's `as i64` cuts where the float is in range
 capped : (i c : ℕ) → i < c → min i (c - 1) ≡ i
@@ -124,3 +142,13 @@ exactly a j = go (le (neg two63) x) (lt x two63) (signed64 (a .mj +ℤ w)) (λ l
 
 pub with-exact : (a : Acc) (millijoules : Float) (r : Added) → r ≡ accStep a millijoules → (r ≡ accStep a millijoules) × Exact a millijoules r
 with-exact a j r e = (e, subst (λ (z : Added). Exact a j z) (sym e) (exactly a j))
+
+-- ---- and of every add to a lent record
+after-answer : (a : Acc) (joules : Float) (r : Added) → Exact a (joules *f thousand) r → ExactAfter a joules (addedNumber r) (addedAcc a r)
+unfolding Exact ExactAfter
+after-answer a joules (Sum b w) h = inl (refl, (w, h .0, h .1))
+after-answer a joules Full h = inr (refl, refl)
+
+pub exactly-after : (a : Acc) (joules : Float) → ExactAfter a joules (addedNumber (addTo a joules)) (addedAcc a (addTo a joules))
+unfolding addTo
+exactly-after a joules = after-answer a joules (accStep a (joules *f thousand)) (exactly a (joules *f thousand))

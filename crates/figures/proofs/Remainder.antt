@@ -143,7 +143,7 @@ module _ (s : Bool) (m : ℕ) (e : ℤ) (H : Held m e) where
   unfolding sub add neg
   opened t n g = refl
 
-  pub minus-whole : (W : Float) → HasValue W s (a / d) 1 → Rest s (a % d) d (sub binary32 (fin s m e) W)
+  minus-whole : (W : Float) → HasValue W s (a / d) 1 → Rest s (a % d) d (sub binary32 (fin s m e) W)
   minus-whole nan v = absurd v
   minus-whole (inf t) v = absurd v
   minus-whole (fin t n g) v =

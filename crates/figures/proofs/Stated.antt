@@ -1,11 +1,20 @@
--- Document 01's words on refusal 6, of the definitions: a sum "that is not finite" is full.
-use mathlib.Core.Bool.{true, false, true≢false}
-use mathlib.Core.Path.{_≡_, refl}
-use lib.Ieee.{Float, nan, inf, fin, le, lt, eq, neg, ofBits}
-use Rattle.numbers.specs.Binary32.{_+f_, isFinite}
-use Rattle.figures.specs.Acc.{inI64, accStep}
+-- Document 01's and the tally's words, of the definitions: a sum "that is not finite" is full; the whole millijoules told are what the active count gained; a counted time is within signed 64 bits.
+use mathlib.Core.Bool.{Bool, true, false, _&&_, cond, true≢false}
+use mathlib.Core.Path.{_≡_, refl, sym, subst}
+use Prim.Native.Nat.{ℕ, _+_, _^_, _<_}
+use borrow.Author.Tests.{ltb-true}
+use lib.Dec.{ltb}
+use lib.Ieee.{Float, nan, inf, fin, le, lt, eq, neg, ofBits, binary32, ofInt, toSigned}
+use lib.IntN.{_+ℤ_, +ℤ-idr}
+use Rattle.numbers.specs.Binary32.{_+f_, _-f_, _*f_, isFinite}
+use Rattle.figures.specs.Acc.{inI64, signed64, accStep, addTo, addedAcc, addedWhole}
+use Rattle.figures.specs.Tally.{seconds, energyStep, withTime, both, accountingStep, accountedTally, accountedWhole}
 use Rattle.figures.specs.declared.acc.Acc.{Acc}
-use Rattle.figures.specs.declared.acc.Added.the-variants.{Full}
+use Rattle.figures.specs.declared.acc.Added.the-variants as added
+use Rattle.figures.specs.declared.acc.Added.{Added}
+use Rattle.figures.specs.declared.tally.Accounted.the-variants.{Counted, Full}
+use Rattle.figures.specs.declared.tally.Accounted.{Accounted}
+use Rattle.figures.specs.declared.tally.Tally.{Tally}
 
 outside : (x : Float) → isFinite x ≡ false → inI64 x ≡ false
 unfolding isFinite inI64 le lt eq neg ofBits
@@ -14,6 +23,68 @@ outside (inf true) h = refl
 outside (inf false) h = refl
 outside (fin s m e) h = absurd (true≢false h)
 
-pub not-finite-is-full : (a : Acc) (millijoules : Float) → isFinite (a .frac +f millijoules) ≡ false → accStep a millijoules ≡ Full
+pub not-finite-is-full : (a : Acc) (millijoules : Float) → isFinite (a .frac +f millijoules) ≡ false → accStep a millijoules ≡ added.Full
 unfolding accStep
 not-finite-is-full a j h = rw (outside (a .frac +f j) h)
+
+-- ---- the whole millijoules
+step-gains : (a : Acc) (j : Float) → addedAcc a (accStep a j) .mj ≡ a .mj +ℤ addedWhole (accStep a j)
+unfolding accStep
+step-gains a j = go (inI64 x && signed64 (a .mj +ℤ toSigned 63 x))
+  where
+    x : Float
+    x = a .frac +f j
+
+    sum : Added
+    sum = added.Sum (record { mj = a .mj +ℤ toSigned 63 x; frac = x -f ofInt binary32 (toSigned 63 x) }) (toSigned 63 x)
+
+    go : (t : Bool) → addedAcc a (cond t sum added.Full) .mj ≡ a .mj +ℤ addedWhole (cond t sum added.Full)
+    go true = refl
+    go false = sym (+ℤ-idr (a .mj))
+
+energy-gains : (active : Bool) (a : Acc) (j : Float) → addedAcc a (energyStep active a j) .mj ≡ a .mj +ℤ addedWhole (energyStep active a j)
+unfolding energyStep addTo
+energy-gains true a j = step-gains a _
+energy-gains false a j = sym (+ℤ-idr (a .mj))
+
+both-gain : (t : Tally) (E A : Added) (dt : ℕ) → addedAcc (t .e) E .mj ≡ t .e .mj +ℤ addedWhole E
+    → accountedTally t (both E A (t .«t_int») dt) .e .mj ≡ t .e .mj +ℤ accountedWhole (both E A (t .«t_int») dt)
+unfolding both withTime
+both-gain t (added.Sum e w) (added.Sum va v) dt h = go (ltb (t .«t_int» + dt) (2 ^ 63))
+  where
+    on : Accounted
+    on = Counted (record { e = e; va = va; «t_int» = t .«t_int» + dt }) w
+
+    go : (b : Bool) → accountedTally t (cond b on Full) .e .mj ≡ t .e .mj +ℤ accountedWhole (cond b on Full)
+    go true = h
+    go false = sym (+ℤ-idr (t .e .mj))
+both-gain t (added.Sum e w) added.Full dt h = sym (+ℤ-idr (t .e .mj))
+both-gain t added.Full A dt h = sym (+ℤ-idr (t .e .mj))
+
+pub whole-is-gained : (t : Tally) (dt : ℕ) (p s : Float) (active : Bool)
+    → accountedTally t (accountingStep t dt p s active) .e .mj ≡ t .e .mj +ℤ accountedWhole (accountingStep t dt p s active)
+unfolding accountingStep
+whole-is-gained t dt p s active = both-gain t _ _ dt (energy-gains active (t .e) (p *f seconds dt))
+
+pub with-gained : (t : Tally) (dt : ℕ) (p s : Float) (active : Bool) (r : Accounted) → r ≡ accountingStep t dt p s active
+    → (r ≡ accountingStep t dt p s active) × (accountedTally t r .e .mj ≡ t .e .mj +ℤ accountedWhole r)
+with-gained t dt p s active r h = (h, subst (λ (z : Accounted). accountedTally t z .e .mj ≡ t .e .mj +ℤ accountedWhole z) (sym h) (whole-is-gained t dt p s active))
+
+-- ---- the time
+abbrev pub TimeInRange : Accounted → Type 0
+TimeInRange (Counted u w) = u .«t_int» < 2 ^ 63
+TimeInRange Full = Unit {0}
+
+both-time : (E A : Added) (t dt : ℕ) → TimeInRange (both E A t dt)
+unfolding both withTime
+both-time (added.Sum e w) (added.Sum va v) t dt = go (ltb (t + dt) (2 ^ 63)) (ltb-true (t + dt) (2 ^ 63))
+  where
+    go : (b : Bool) → (b ≡ true → t + dt < 2 ^ 63) → TimeInRange (cond b (Counted (record { e = e; va = va; «t_int» = t + dt }) w) Full)
+    go true h = h refl
+    go false h = tt
+both-time (added.Sum e w) added.Full t dt = tt
+both-time added.Full A t dt = tt
+
+pub time-in-range : (t : Tally) (dt : ℕ) (p s : Float) (active : Bool) → TimeInRange (accountingStep t dt p s active)
+unfolding accountingStep
+time-in-range t dt p s active = both-time _ _ (t .«t_int») dt

@@ -1,4 +1,5 @@
--- The energy accumulator, the source's `Acc`: its step, its add, its watt hours, and refusal 6, "a sum in `Acc::add` that is not finite or outside -2^63 <= sum < 2^63".
+-- The energy accumulator, the source's `Acc`: its step, its add and its watt hours. Refusal 6 is given for "a sum in `Acc::add` that is not finite or outside -2^63 <= sum < 2^63", and for a new
+-- "millijoule count .. outside signed 64 bits": document 01 says the latter of the accounting step, whose counts are these, and the source's addition overflows there in every add.
 use mathlib.Core.Bool.{Bool, _&&_, cond}
 use Prim.Native.Nat.{ℕ, _^_}
 use lib.Dec.{ltb}
@@ -30,8 +31,8 @@ unfoldable pub signed64 : ℤ → Bool
 signed64 (pos n) = ltb n (2 ^ 63)
 signed64 (negsuc n) = ltb n (2 ^ 63)
 
--- millijoules join the fraction. Of their rounded sum the whole part, cut toward zero, goes to the count, and what is left of it is the new fraction; full where the sum or the count is out of range.
--- `toSigned 63` is Rust's `as i64`
+-- Millijoules join the fraction. The whole part of the rounded sum, cut toward zero (`toSigned 63` is Rust's `as i64`), goes to the count, and what is left of the sum is the new fraction.
+-- Full where the sum or the new count is out of range.
 unfoldable pub accStep : Acc → Float → Added
 accStep a millijoules =
     let x = a .frac +f millijoules in
@@ -55,18 +56,18 @@ abbrev pub addedAcc : Acc → Added → Acc
 addedAcc a (Sum b w) = b
 addedAcc a Full = a
 
--- both, as the record that a lent add stores from
-abbrev pub after : Acc → Added → After
-after a answer = record { acc = addedAcc a answer; refusal = addedNumber answer }
-
 abbrev pub addedWhole : Added → ℤ
 addedWhole (Sum b w) = w
 addedWhole Full = pos 0
 
--- 3.6e6, the millijoules of a milliwatt hour, in binary64
-abbrev pub hour : Float
-hour = ofBits binary64 0x414b_7740_0000_0000
+-- record and number together, as the lent add stores the one and returns the other
+abbrev pub after : Acc → Added → After
+after a answer = record { acc = addedAcc a answer; refusal = addedNumber answer }
+
+-- 3.6e6, the millijoules of a watt hour, in binary64
+abbrev pub wattHour : Float
+wattHour = ofBits binary64 0x414b_7740_0000_0000
 
 -- the source's `Acc::wh`: count and fraction added and divided in binary64, then rounded to binary32
 unfoldable pub wattHours : Acc → Float
-wattHours a = narrow (div binary64 (add binary64 (ofInt binary64 (a .mj)) (a .frac)) hour)
+wattHours a = narrow (div binary64 (add binary64 (ofInt binary64 (a .mj)) (a .frac)) wattHour)

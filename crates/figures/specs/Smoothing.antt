@@ -1,4 +1,5 @@
--- Document 01: "Smoothing is `ema`". It is a function of dmm.rs, which is not at hand; decided (docs/DECISIONS.md) by the source's comment at `ema_rel`.
+-- Document 01: "Smoothing is `ema`". It is a function of dmm.rs, which is not at hand, so it is decided (docs/DECISIONS.md): the jump by the source's comment at `ema_rel`, "|x - y| > 5 % of .. jumps";
+-- the form of the step is chosen.
 use mathlib.Core.Bool.{cond}
 use lib.Ieee.{Float, binary32, lt, ofBits}
 use Rattle.numbers.specs.Binary32.{_+f_, _-f_, _*f_, absOf, maxOf}

@@ -3,7 +3,7 @@
 ghost use mathlib.Core.Path.{_≡_};
 ghost use lib.IntN.{_+ℤ_};
 ghost use Rattle.figures.specs.Acc.{inI64, signed64, accStep, thousand, addTo, addedNumber, addedAcc, after, wattHours};
-ghost use Rattle.figures.specs.Exact.{Exact};
+ghost use Rattle.figures.specs.Exact.{Exact, ExactAfter};
 ghost use Rattle.numbers.specs.Binary32.{_*f_};
 use refusals::Refusal;
 
@@ -20,7 +20,7 @@ pub enum Added {
     Full,
 }
 
-// The record that stands after an add, and the number of its answer.
+// The record after an add, and the number of its answer.
 pub struct After {
     pub acc: Acc,
     pub refusal: u8,
@@ -31,7 +31,7 @@ impl Acc {
 
     // Adds to the caller's own record, and answers 0; or 6, full, and the record is as it was.
     pub fn add(&mut self, joules: f32) -> u8
-        ensures { λ r. ⌜ (r ≡ addedNumber (addTo (now (self .entry)) joules)) × (now (self .exit) ≡ addedAcc (now (self .entry)) (addTo (now (self .entry)) joules)) ⌝ }
+        ensures { λ r. ⌜ (r ≡ addedNumber (addTo (now (self .entry)) joules)) × (now (self .exit) ≡ addedAcc (now (self .entry)) (addTo (now (self .entry)) joules)) × ExactAfter (now (self .entry)) joules r (now (self .exit)) ⌝ }
     {
         let after = after_add(*self, joules);
         *self = after.acc;
@@ -48,7 +48,7 @@ impl Acc {
     }
 }
 
-// Whether Rust's `x as i64` is x cut toward zero; of a NaN it is not.
+// -2^63 <= x < 2^63, which a NaN is not.
 fn in_i64(x: f32) -> bool
     ensures { λ r. ⌜ r ≡ inI64 x ⌝ }
 {
@@ -60,7 +60,7 @@ fn in_i64(x: f32) -> bool
 }
 
 // Whether m + w is an i64.
-fn sum_fits(m: i64, w: i64) -> bool
+pub fn sum_fits(m: i64, w: i64) -> bool
     ensures { λ r. ⌜ r ≡ signed64 (m +ℤ w) ⌝ }
 {
     if w >= 0 {
@@ -71,7 +71,7 @@ fn sum_fits(m: i64, w: i64) -> bool
 }
 
 // The accumulator's own step: millijoules join the fraction, and the sum's whole part moves over to
-// the count.
+// the count. Full where the sum or the new count is out of range.
 pub fn step(a: Acc, millijoules: f32) -> Added
     ensures is { λ r. ⌜ r ≡ accStep a millijoules ⌝ }
     ensures exact { λ r. ⌜ Exact a millijoules r ⌝ }
@@ -103,7 +103,8 @@ pub fn add_to(a: Acc, joules: f32) -> Added
     step(a, joules * 1000.0)
 }
 
-// add_to as one record, which `add` stores.
+// What stands after an add: the new record and 0, or the old one and 6. `add` stores the one and
+// returns the other.
 pub fn after_add(a: Acc, joules: f32) -> After
     ensures { λ r. ⌜ r ≡ after a (addTo a joules) ⌝ }
 {

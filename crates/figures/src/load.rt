@@ -13,7 +13,8 @@ pub struct Figures {
     pub i: f32,
 }
 
-// The volts at the load: v_m and p_m are measured in front of the resistance r, where i flows.
+// The volts at the load: v_m and p_m are measured in front of the resistance r, where i flows. A
+// square below zero, or a NaN, counts as zero.
 fn load_volts(v_m: f32, p_m: f32, i: f32, r: f32) -> f32
     ensures { λ v. ⌜ v ≡ loadVolts «v_m» «p_m» i r ⌝ }
 {
@@ -21,7 +22,7 @@ fn load_volts(v_m: f32, p_m: f32, i: f32, r: f32) -> f32
     numbers::sqrt(numbers::max(v2, 0.0))
 }
 
-// p / s, held to -1 to 1; 0 where s is not above zero.
+// p / s, held to -1 to 1, where a NaN stays; 0 where s is not above zero.
 fn power_factor(p: f32, s: f32) -> f32
     ensures { λ pf. ⌜ pf ≡ powerFactor p s ⌝ }
 {
@@ -32,9 +33,9 @@ fn power_factor(p: f32, s: f32) -> f32
     }
 }
 
-// What apparent power is left beside the power.
-fn reactive_power(s: f32, p: f32) -> f32
-    ensures { λ q. ⌜ q ≡ reactive s p ⌝ }
+// The root of s * s - p * p; of a difference below zero, and of a NaN, zero.
+fn reactive_power(p: f32, s: f32) -> f32
+    ensures { λ q. ⌜ q ≡ reactive p s ⌝ }
 {
     numbers::sqrt(numbers::max(s * s - p * p, 0.0))
 }
@@ -50,6 +51,6 @@ pub fn totals(p_ac: f32, v_ac: f32, v_dc: f32, i_ac: f32, i_dc: f32, r: f32) -> 
     let v = load_volts(v_m, p_m, i, r);
     let s = v * i;
     let pf = power_factor(p, s);
-    let q = reactive_power(s, p);
+    let q = reactive_power(p, s);
     Figures { p, s, q, pf, v, i }
 }

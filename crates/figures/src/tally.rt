@@ -1,6 +1,7 @@
 // The tally: both energies and the time counted, and the accounting step of one interval.
 ghost use mathlib.Core.Path.{_≡_};
-ghost use Rattle.figures.specs.Tally.{freshTally, energyStep, withTime, accountingStep};
+ghost use lib.IntN.{_+ℤ_};
+ghost use Rattle.figures.specs.Tally.{freshTally, energyStep, withTime, accountingStep, accountedTally, accountedWhole};
 use crate::acc::Acc;
 use crate::acc::Added;
 use crate::acc::add_to;
@@ -28,7 +29,7 @@ impl Tally {
 // gained; or full, refusal 6.
 pub enum Accounted {
     Counted(Tally, i64),
-    Refused,
+    Full,
 }
 
 // Nothing counted.
@@ -54,10 +55,10 @@ fn with_time(e: Acc, whole: i64, va: Acc, t_int: u64, dt: u64) -> Accounted
     ensures { λ r. ⌜ r ≡ withTime e whole va «t_int» dt ⌝ }
 {
     if t_int > MOST_TIME {
-        return Accounted::Refused;
+        return Accounted::Full;
     }
     if dt > MOST_TIME - t_int {
-        return Accounted::Refused;
+        return Accounted::Full;
     }
     Accounted::Counted(
         Tally {
@@ -69,24 +70,26 @@ fn with_time(e: Acc, whole: i64, va: Acc, t_int: u64, dt: u64) -> Accounted
     )
 }
 
-// The accounting step of an interval of dt ms at the powers p_tot and s_last of the last reading; the
-// active energy counts where `active` says so (the source's `!alt || dc`).
-pub fn accounting_step(t: Tally, dt: u64, p_tot: f32, s_last: f32, active: bool) -> Accounted
-    ensures { λ r. ⌜ r ≡ accountingStep t dt «p_tot» «s_last» active ⌝ }
+// The accounting step of an interval of dt ms at the power p and the apparent power s; the active
+// energy counts where `active` says so (the source's `!alt || dc`). The whole millijoules told are
+// what its count gained.
+pub fn accounting_step(t: Tally, dt: u64, p: f32, s: f32, active: bool) -> Accounted
+    ensures is { λ r. ⌜ r ≡ accountingStep t dt p s active ⌝ }
+    ensures gained { λ r. ⌜ accountedTally t r .e .mj ≡ t .e .mj +ℤ accountedWhole r ⌝ }
 {
     let seconds = numbers::u64_to_f32(dt) * 0.001;
     let e = t.e;
     let va = t.va;
     let t_int = t.t_int;
-    let energy = energy_step(active, e, p_tot * seconds);
+    let energy = energy_step(active, e, p * seconds);
     match energy {
         Added::Sum(e_after, whole) => {
-            let apparent = add_to(va, s_last * seconds);
+            let apparent = add_to(va, s * seconds);
             match apparent {
                 Added::Sum(va_after, _) => with_time(e_after, whole, va_after, t_int, dt),
-                Added::Full => Accounted::Refused,
+                Added::Full => Accounted::Full,
             }
         }
-        Added::Full => Accounted::Refused,
+        Added::Full => Accounted::Full,
     }
 }

@@ -101,19 +101,19 @@ pub extern "C" fn leaf_fresh_tally() -> Tally
 pub extern "C" fn leaf_accounting_step(
     t: Tally,
     dt: u64,
-    p_tot: f32,
-    s_last: f32,
+    p: f32,
+    s: f32,
     active: bool,
 ) -> NumberedTally
-    ensures { λ r. ⌜ r ≡ numberedTally t (accountingStep t dt «p_tot» «s_last» active) ⌝ }
+    ensures { λ r. ⌜ r ≡ numberedTally t (accountingStep t dt p s active) ⌝ }
 {
-    match figures::tally::accounting_step(t, dt, p_tot, s_last, active) {
+    match figures::tally::accounting_step(t, dt, p, s, active) {
         Accounted::Counted(u, w) => NumberedTally {
             refusal: 0,
             tally: u,
             whole: w,
         },
-        Accounted::Refused => {
+        Accounted::Full => {
             NumberedTally {
                 refusal: refusals::number(Refusal::Full),
                 tally: t,

@@ -18,9 +18,12 @@ x *f y = mul binary32 x y
 abbrev pub _/f_ : Float → Float → Float
 x /f y = div binary32 x y
 
--- plus zero
+-- plus zero, and 1.0
 abbrev pub zeroF : Float
 zeroF = ofBits binary32 0
+
+abbrev pub oneF : Float
+oneF = ofBits binary32 0x3f80_0000
 
 -- `is_finite`: no NaN and no infinity
 unfoldable pub isFinite : Float → Bool

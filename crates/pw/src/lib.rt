@@ -4,6 +4,7 @@ ghost use Rattle.codes.specs.Frame.{decoded};
 ghost use Rattle.tables.specs.Window.{cmpWindow};
 ghost use Rattle.tables.specs.Ranges.{r36Of};
 ghost use Rattle.tables.specs.Row.{rowKind, rowNumber};
+ghost use Rattle.figures.specs.Exact.{ExactAfter};
 ghost use Rattle.figures.specs.Acc.{freshAcc, addTo, addedNumber, addedAcc, wattHours};
 ghost use Rattle.pw.specs.Host.{frameCodes, hostWindow};
 use codes::Decoded;
@@ -96,7 +97,7 @@ pub extern "C" fn pw_acc_fresh() -> Acc
 // Adds to the host's own accumulator, and answers 0; or 6, full, and it is as it was.
 #[no_mangle]
 pub extern "C" fn pw_acc_add(acc: &mut Acc, joules: f32) -> u8
-    ensures { λ r. ⌜ (r ≡ addedNumber (addTo (now (acc .entry)) joules)) × (now (acc .exit) ≡ addedAcc (now (acc .entry)) (addTo (now (acc .entry)) joules)) ⌝ }
+    ensures { λ r. ⌜ (r ≡ addedNumber (addTo (now (acc .entry)) joules)) × (now (acc .exit) ≡ addedAcc (now (acc .entry)) (addTo (now (acc .entry)) joules)) × ExactAfter (now (acc .entry)) joules r (now (acc .exit)) ⌝ }
 {
     let after = figures::acc::after_add(*acc, joules);
     *acc = after.acc;

@@ -73,8 +73,8 @@ isSum mj frac (Sum a w) = sameInt (a .mj) mj && eq (a .frac) frac
 isSum mj frac Full = false
 
 -- 1/1024 J
-abbrev joules : Float
-joules = round binary32 false 1 1024
+abbrev small : Float
+small = round binary32 false 1 1024
 
 unfoldable pub rows : List Bool
 rows =
@@ -88,7 +88,7 @@ rows =
     ∷ isR21 0xdd (cmpWindow (decimal 0 0) (decimal 5 2))
     ∷ isNone (cmpWindow (decimal 0 0) (decimal 2 2))
     ∷ isR21 0x06 (cmpWindow (decimal 1 0) (decimal 1 0))
-    ∷ isSum (pos 1) (decimal 953125 6) (addAgain joules (addTo freshAcc joules))
+    ∷ isSum (pos 1) (decimal 953125 6) (addAgain small (addTo freshAcc small))
     ∷ []
 
 abbrev pub all : List Bool → Bool

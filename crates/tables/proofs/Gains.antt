@@ -5,18 +5,17 @@ use mathlib.Core.List.{List}
 use Prim.Native.Nat.{ℕ}
 use lib.ListN.{getD}
 use lib.Ieee.{Float, nan, lt}
-use Rattle.numbers.specs.Binary32.{zeroF}
+use Rattle.numbers.specs.Binary32.{zeroF, oneF}
 use Rattle.tables.specs.declared.calibration.Calibration.{Calibration}
 use Rattle.tables.specs.Bounds.{atMost}
-use Rattle.tables.specs.Calibration.{one}
 use Rattle.tables.specs.Gain.{plausible, factoryWords, vGainFactory, vGain}
 
 module _ (c : Calibration) (vr r : ℕ) (e : r ≡ atMost 3 vr) where
-  pub factory : (g : Float) (t : Bool) → g ≡ factoryWords c r → plausible g ≡ t → cond t g one ≡ vGainFactory c vr
+  pub factory : (g : Float) (t : Bool) → g ≡ factoryWords c r → plausible g ≡ t → cond t g oneF ≡ vGainFactory c vr
   unfolding vGainFactory
   factory g t f p =
-      ap (λ (b : Bool). cond b g one) (sym p)
-      ∙ ap (λ (x : Float). cond (plausible x) x one) (f ∙ ap (factoryWords c) e)
+      ap (λ (b : Bool). cond b g oneF) (sym p)
+      ∙ ap (λ (x : Float). cond (plausible x) x oneF) (f ∙ ap (factoryWords c) e)
 
   pub in-force : (vgain : List Float) (t : Bool) → lt zeroF (getD vgain r nan) ≡ t → cond t (getD vgain r nan) (vGainFactory c vr) ≡ vGain c vgain vr
   unfolding vGain

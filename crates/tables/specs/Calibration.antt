@@ -6,7 +6,7 @@ use Prim.Native.Nat.{ℕ, _/_}
 use lib.Dec.{eqb, ltb}
 use lib.ListN.{length, getD, replicate}
 use lib.Ieee.{Float, binary32, lt, ofBits}
-use Rattle.numbers.specs.Binary32.{zeroF, isFinite, absOf}
+use Rattle.numbers.specs.Binary32.{zeroF, oneF, isFinite, absOf}
 use Rattle.refusals.specs.declared.Refusal.the-variants as refusal
 use Rattle.tables.specs.declared.calibration.Calibration.{Calibration}
 use Rattle.tables.specs.declared.calibration.CalibrationAnswer.{CalibrationAnswer}
@@ -38,12 +38,9 @@ cal c at default =
     let x = ofBits binary32 (wordAt (c .words) at) in
     cond (c .valid && ltb (at / 4) 73 && usable x) x default
 
-abbrev pub one : Float
-one = ofBits binary32 0x3f80_0000  -- 1.0
-
 -- a word that the source multiplies or divides by, with its default 1.0; and one that it takes away, with its default 0.0
 unfoldable pub factor : Calibration → ℕ → Float
-factor c at = cal c at one
+factor c at = cal c at oneF
 
 unfoldable pub offset : Calibration → ℕ → Float
 offset c at = cal c at zeroF

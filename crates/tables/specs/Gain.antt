@@ -5,9 +5,9 @@ use Prim.Native.Nat.{ℕ, _+_, _*_}
 use lib.Dec.{eqb}
 use lib.ListN.{getD}
 use lib.Ieee.{Float, nan, binary32, lt, ofBits}
-use Rattle.numbers.specs.Binary32.{_*f_, _/f_, zeroF}
+use Rattle.numbers.specs.Binary32.{_*f_, _/f_, zeroF, oneF}
 use Rattle.tables.specs.declared.calibration.Calibration.{Calibration}
-use Rattle.tables.specs.Calibration.{one, factor}
+use Rattle.tables.specs.Calibration.{factor}
 use Rattle.tables.specs.Bounds.{atMost, within}
 
 -- "0.9 and 1.1 as bounds of a gain", both allowed
@@ -26,7 +26,7 @@ factoryWords c r = cond (eqb r 0) (factor c 0x04 *f factor c 0x38 /f factor c 0x
 
 -- the factory's gain, or 1.0 where it is not plausible; a range above 3 counts as 3
 unfoldable pub vGainFactory : Calibration → ℕ → Float
-vGainFactory c vr = cond (plausible (factoryWords c (atMost 3 vr))) (factoryWords c (atMost 3 vr)) one
+vGainFactory c vr = cond (plausible (factoryWords c (atMost 3 vr))) (factoryWords c (atMost 3 vr)) oneF
 
 -- the gain in force: the stored one where it is above zero, else the factory's
 unfoldable pub vGain : Calibration → List Float → ℕ → Float

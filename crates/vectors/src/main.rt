@@ -251,7 +251,7 @@ fn counted(t_int: u64, dt: u64) -> bool {
     };
     match figures::tally::accounting_step(tally, dt, 0.0, 0.0, true) {
         Accounted::Counted(_, _) => true,
-        Accounted::Refused => false,
+        Accounted::Full => false,
     }
 }
 

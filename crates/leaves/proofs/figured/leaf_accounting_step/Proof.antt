@@ -26,13 +26,13 @@ returns c =
     let g = c .before .u .given in
     let s = c .before .before .before in
     ap (λ (z : ℤ). record { refusal = 0; tally = g .0 .0; whole = z }) (toZ-ofZ w64 (g .0 .1 .0) (record { sfits = c .known-told .given .1 .0 .1 }))
-    ∙ ap (numberedTally (s .before .args .t)) (sym (g .1) ∙ s .accounting-step .ensures)
+    ∙ ap (numberedTally (s .before .args .t)) (sym (g .1) ∙ s .accounting-step .ensures .0)
 
 returns-2 : tie.Need-returns-2
 returns-2 c =
     let s = c .before .before .before in
     let t = s .before .args .t in
-    ap (λ (n : ℕ). record { refusal = n; tally = t; whole = pos 0 }) (c .number .ensures) ∙ ap (numberedTally t) (sym (c .before .enum-told .given .1) ∙ s .accounting-step .ensures)
+    ap (λ (n : ℕ). record { refusal = n; tally = t; whole = pos 0 }) (c .number .ensures) ∙ ap (numberedTally t) (sym (c .before .enum-told .given .1) ∙ s .accounting-step .ensures .0)
 
 pub leaf-accounting-step-spec : {M : Type 1} → statement M
 leaf-accounting-step-spec =

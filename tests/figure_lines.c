@@ -1,0 +1,69 @@
+/* figure_lines SEED LINES: random lines of the comparison's protocol for the functions of module 3, each with
+ * a quarter of its floats at a place where a rule changes, infinities and NaN among them, and a quarter of any
+ * bits. The same seed gives the same lines. */
+#include "floats.h"
+
+#include <inttypes.h>
+#include <stdio.h>
+#include <stdlib.h>
+
+static void put_floats(uint64_t *state, int count, int high)
+{
+    for (int k = 0; k < count; k++)
+        printf(" %08" PRIx32, bits32(some_float(state, high)));
+}
+
+/* Any 64 bits, an end of the range or close to it, or a count that a meter has. */
+static int64_t some_count(uint64_t *state)
+{
+    uint64_t r = next(state);
+    uint64_t near = r >> 4 & 0xFFFF;
+    switch (r & 3) {
+    case 0:
+        return (int64_t)next(state);
+    case 1:
+        return INT64_MAX - (int64_t)near;
+    case 2:
+        return INT64_MIN + (int64_t)near;
+    default:
+        return (int64_t)(next(state) >> 30) - (INT64_C(1) << 33);
+    }
+}
+
+static void put_line(uint64_t *state)
+{
+    switch (next(state) % 5) {
+    case 0:
+        printf("f totals");
+        put_floats(state, 6, 8);
+        break;
+    case 1:
+        printf("f ema");
+        put_floats(state, 4, 4);
+        break;
+    case 2:
+        printf("f ema_rel");
+        put_floats(state, 4, 4);
+        break;
+    case 3:
+        printf("f acc %" PRId64, some_count(state));
+        put_floats(state, 1, 0);
+        put_floats(state, 1, 16);
+        break;
+    default:
+        printf("f acc_wh %" PRId64, some_count(state));
+        put_floats(state, 1, 0);
+    }
+    putchar('\n');
+}
+
+int main(int argc, char **argv)
+{
+    if (argc != 3)
+        return 2;
+    uint64_t state = strtoull(argv[1], NULL, 10);
+    uint64_t lines = strtoull(argv[2], NULL, 10);
+    for (uint64_t k = 0; k < lines; k++)
+        put_line(&state);
+    return fflush(stdout) == 0 ? 0 : 1;
+}
