@@ -5,6 +5,11 @@
  * convention. It allocates nothing, keeps nothing between calls, and needs no
  * other library. Every function answers for every argument, but for what its
  * comment says of pointers and of bools, and may be called from any thread.
+ *
+ * The processor's floating-point mode must be the one that a C program starts
+ * with: rounding to nearest, subnormals neither flushed to zero nor read as
+ * zero. fesetround, flush-to-zero, and -ffast-math when the host is linked
+ * change the answers.
  */
 #ifndef PW_H
 #define PW_H
@@ -119,10 +124,14 @@ uint8_t pw_r36_of(int8_t steps);
 
 /* An energy, for a host that counts one of its own: mj + frac millijoules. The
  * whole ones and the fraction of one are kept apart, since a float alone would
- * soon be too large for a small addition to move it. */
+ * soon be too large for a small addition to move it. It serves an apparent
+ * energy as well: VAs for J, VAh for Wh. Any record is taken, also one that the
+ * host has stored and read back. Padding follows `frac`, so records cannot be
+ * compared byte by byte. */
 struct pw_acc {
     int64_t mj;
-    float frac; /* of either sign; below 1 in size after an add that is done */
+    float frac; /* of either sign, whatever mj's is; below 1 in size after an
+                 * add that returned PW_DONE */
 };
 
 /* An energy of zero: 0 mJ and 0.0. */
@@ -131,17 +140,22 @@ struct pw_acc pw_acc_fresh(void);
 /* Adds `joules` to the energy at `acc`.
  *
  * Takes:   `acc`, where one record can be read and written. It must not be NULL
- *          and must be aligned, and nothing else may read or write the record
- *          during the call. Any float `joules`, also below zero.
+ *          and must be aligned as C aligns it, to 8 bytes, and nothing else may
+ *          read or write the record during the call. Any float `joules`, also
+ *          below zero.
  * Returns: PW_DONE; or PW_FULL, where the sum x = frac + joules * 1000, both
  *          operations rounded to binary32, is not finite or not
  *          -2^63 <= x < 2^63, or where mj + w does not fit in 64 signed bits;
- *          w is x cut toward zero. A record whose `frac` is a NaN or infinite
- *          is full for every add.
- * Leaves:  with PW_DONE mj + w in `mj` and x - w in `frac`, and w + frac is
- *          exactly x: nothing is lost but by the two roundings of x. With
- *          PW_FULL the record as it was; a NaN in `frac` stays a NaN. No byte
- *          beside the record is read or written. */
+ *          w is x cut toward zero.
+ * Leaves:  with PW_DONE mj + w in `mj` and x - w in `frac`. w plus the new
+ *          `frac` is exactly x, so nothing is lost but by the two roundings of
+ *          x: beside a fraction near 1 less than about 3e-11 J is lost whole,
+ *          and more than 2^24 mJ at once, some 16,777 J, is not exact to the
+ *          millijoule. So add often. With PW_FULL `mj` and `frac` keep their
+ *          values, and a NaN stays a NaN; the same add is then refused again,
+ *          and a smaller one may fit. A record whose `frac` is a NaN or
+ *          infinite is full for every add: begin anew with pw_acc_fresh. No
+ *          byte beside the record is read or written. */
 uint8_t pw_acc_add(struct pw_acc *acc, float joules);
 
 /* The energy in watt hours.

@@ -1,5 +1,5 @@
-/* figure_lines SEED LINES: random lines of the comparison's protocol for the functions of module 3, each with
- * a quarter of its floats at a place where a rule changes, infinities and NaN among them, and a quarter of any
+/* figure_lines SEED LINES: random lines of the comparison's protocol for the functions of module 3. One time in
+ * four a float is one at which a rule changes, infinities and NaN among them, and one time in four it has any
  * bits. The same seed gives the same lines. */
 #include "floats.h"
 

@@ -2,8 +2,8 @@
  *
  * Each frame lies at the end or at the start of a page that cannot be written,
  * with pages that cannot be read on both sides (pages.h); a frame of a wrong
- * length lies where nothing can be read. So does an energy, in a page that can
- * be written.
+ * length lies where nothing can be read. An energy lies at both ends of such a
+ * page, but of one that can be written.
  */
 #define _DEFAULT_SOURCE
 #include "bits.h"

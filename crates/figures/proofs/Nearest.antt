@@ -1,4 +1,4 @@
--- Each constant that specs/ gives by its bits is the number nearest its decimal: in binary32, and 3.6e6 in binary64. By computation.
+-- Each constant that specs/ gives by its bits is the number nearest its decimal, or 2^63: in binary32, and 3.6e6 in binary64. By computation.
 use mathlib.Core.Bool.{false}
 use mathlib.Core.List.{[], _∷_}
 use mathlib.Core.Path.{_≡_, refl}

@@ -1,14 +1,16 @@
--- Document 01's and the tally's words, of the definitions: a sum "that is not finite" is full; the whole millijoules told are what the active count gained; a counted time is within signed 64 bits.
-use mathlib.Core.Bool.{Bool, true, false, _&&_, cond, true≢false}
-use mathlib.Core.Path.{_≡_, refl, sym, subst}
+-- Three things that follow from the definitions: an add is full exactly under refusal 6's condition, which holds of every sum "that is not finite"; what the accounting step tells; and a counted time
+-- is within signed 64 bits.
+use mathlib.Core.Bool.{Bool, true, false, _&&_, cond, true≢false, false≢true}
+use mathlib.Core.Logic.{_⊎_, inl, inr, _↔_}
+use mathlib.Core.Path.{_≡_, refl, sym, ap, subst}
 use Prim.Native.Nat.{ℕ, _+_, _^_, _<_}
 use borrow.Author.Tests.{ltb-true}
 use lib.Dec.{ltb}
 use lib.Ieee.{Float, nan, inf, fin, le, lt, eq, neg, ofBits, binary32, ofInt, toSigned}
 use lib.IntN.{_+ℤ_, +ℤ-idr}
 use Rattle.numbers.specs.Binary32.{_+f_, _-f_, _*f_, isFinite}
-use Rattle.figures.specs.Acc.{inI64, signed64, accStep, addTo, addedAcc, addedWhole}
-use Rattle.figures.specs.Tally.{seconds, energyStep, withTime, both, accountingStep, accountedTally, accountedWhole}
+use Rattle.figures.specs.Acc.{sumInRange, countInRange, accStep, addTo, addedAcc, addedWhole}
+use Rattle.figures.specs.Tally.{seconds, energyStep, withTime, both, accountingStep, accountedNumber, accountedTally, accountedWhole, Told}
 use Rattle.figures.specs.declared.acc.Acc.{Acc}
 use Rattle.figures.specs.declared.acc.Added.the-variants as added
 use Rattle.figures.specs.declared.acc.Added.{Added}
@@ -16,8 +18,8 @@ use Rattle.figures.specs.declared.tally.Accounted.the-variants.{Counted,
 use Rattle.figures.specs.declared.tally.Accounted.{Accounted}
 use Rattle.figures.specs.declared.tally.Tally.{Tally}
 
-outside : (x : Float) → isFinite x ≡ false → inI64 x ≡ false
-unfolding isFinite inI64 le lt eq neg ofBits
+outside : (x : Float) → isFinite x ≡ false → sumInRange x ≡ false
+unfolding isFinite sumInRange le lt eq neg ofBits
 outside nan h = refl
 outside (inf true) h = refl
 outside (inf false) h = refl
@@ -27,10 +29,29 @@ pub not-finite-is-full : (a : Acc) (millijoules : Float) → isFinite (a .frac +
 unfolding accStep
 not-finite-is-full a j h = rw (outside (a .frac +f j) h)
 
+-- full exactly where the sum is out of range, or the count is
+pub full-exactly : (a : Acc) (millijoules : Float) → (accStep a millijoules ≡ added.Full) ↔ (sumInRange (a .frac +f millijoules) && countInRange (a .mj +ℤ toSigned 63 (a .frac +f millijoules)) ≡ false)
+unfolding accStep
+full-exactly a j = go (sumInRange x && countInRange (a .mj +ℤ toSigned 63 x))
+  where
+    x : Float
+    x = a .frac +f j
+
+    sum : Added
+    sum = added.Sum (record { mj = a .mj +ℤ toSigned 63 x; frac = x -f ofInt binary32 (toSigned 63 x) }) (toSigned 63 x)
+
+    is-full : Added → Bool
+    is-full (added.Sum b w) = false
+    is-full added.Full = true
+
+    go : (t : Bool) → (cond t sum added.Full ≡ added.Full) ↔ (t ≡ false)
+    go true = ((λ h. absurd (false≢true (ap is-full h))), (λ h. absurd (true≢false h)))
+    go false = ((λ h. refl), (λ h. refl))
+
 -- ---- the whole millijoules
 step-gains : (a : Acc) (j : Float) → addedAcc a (accStep a j) .mj ≡ a .mj +ℤ addedWhole (accStep a j)
 unfolding accStep
-step-gains a j = go (inI64 x && signed64 (a .mj +ℤ toSigned 63 x))
+step-gains a j = go (sumInRange x && countInRange (a .mj +ℤ toSigned 63 x))
   where
     x : Float
     x = a .frac +f j
@@ -66,9 +87,13 @@ pub whole-is-gained : (t : Tally) (dt : ℕ) (p s : Float) (active : Bool)
 unfolding accountingStep
 whole-is-gained t dt p s active = both-gain t _ _ dt (energy-gains active (t .e) (p *f seconds dt))
 
-pub with-gained : (t : Tally) (dt : ℕ) (p s : Float) (active : Bool) (r : Accounted) → r ≡ accountingStep t dt p s active
-    → (r ≡ accountingStep t dt p s active) × (accountedTally t r .e .mj ≡ t .e .mj +ℤ accountedWhole r)
-with-gained t dt p s active r h = (h, subst (λ (z : Accounted). accountedTally t z .e .mj ≡ t .e .mj +ℤ accountedWhole z) (sym h) (whole-is-gained t dt p s active))
+number-told : (t : Tally) (r : Accounted) → (accountedNumber r ≡ 0) ⊎ ((accountedNumber r ≡ 6) × (accountedTally t r ≡ t))
+number-told t (Counted u w) = inl refl
+number-told t Full = inr (refl, refl)
+
+pub with-told : (t : Tally) (dt : ℕ) (p s : Float) (active : Bool) (r : Accounted) → r ≡ accountingStep t dt p s active → (r ≡ accountingStep t dt p s active) × Told t r
+unfolding Told
+with-told t dt p s active r h = (h, (number-told t r, subst (λ (z : Accounted). accountedTally t z .e .mj ≡ t .e .mj +ℤ accountedWhole z) (sym h) (whole-is-gained t dt p s active)))
 
 -- ---- the time
 abbrev pub TimeInRange : Accounted → Type 0

@@ -10,19 +10,19 @@ use lib.Signed.{mag, leZ}
 use mir.Syntax.{w64}
 use mir.Val.{SFits, toZ, ofZ}
 use mir.ValLaws.{toZ-ofZ}
-use Rattle.figures.specs.Acc.{signed64}
+use Rattle.figures.specs.Acc.{countInRange}
 
 -- the greatest i64
 abbrev most : ℕ
 most = 9223372036854775807
 
 -- the range as the machine's laws have it
-range-is : (z : ℤ) → ltb (mag z) (suc most) ≡ signed64 z
-unfolding signed64
+range-is : (z : ℤ) → ltb (mag z) (suc most) ≡ countInRange z
+unfolding countInRange
 range-is (pos n) = refl
 range-is (negsuc n) = refl
 
-in-range : (z : ℤ) → mag z < suc most → signed64 z ≡ true
+in-range : (z : ℤ) → mag z < suc most → countInRange z ≡ true
 in-range z h = sym (range-is z) ∙ lt-ltb (mag z) (suc most) h
 
 -- ---- over the integers
@@ -46,7 +46,7 @@ up-natural a b k = go (ltb (a + b) (suc most)) refl
     go true e = let h = ltb-true (a + b) (suc most) e in le-leb a (most - b) (omega arith)
     go false e = let h = ltb-false (a + b) (suc most) e in lt-leb a (most - b) (omega arith)
 
-up-whole : (m : ℤ) (b : ℕ) → mag m < suc most → b ≤ most → leZ m (pos (most - b)) ≡ signed64 (m +ℤ pos b)
+up-whole : (m : ℤ) (b : ℕ) → mag m < suc most → b ≤ most → leZ m (pos (most - b)) ≡ countInRange (m +ℤ pos b)
 up-whole (pos a) b h k = up-natural a b k ∙ range-is (pos (a + b))
 up-whole (negsuc a) b h k = sym (in-range (subℕ b (suc a)) (apart b (suc a) (suc most) (omega arith) (omega arith)))
 
@@ -63,7 +63,7 @@ below-zero : (k a : ℕ) → leZ (negℤ (pos k)) (pos a) ≡ true
 below-zero zero a = le-leb 0 a (omega arith)
 below-zero (suc k) a = refl
 
-down-whole : (m : ℤ) (b : ℕ) → mag m < suc most → b ≤ most → leZ (negℤ (pos (most - b))) m ≡ signed64 (m +ℤ negsuc b)
+down-whole : (m : ℤ) (b : ℕ) → mag m < suc most → b ≤ most → leZ (negℤ (pos (most - b))) m ≡ countInRange (m +ℤ negsuc b)
 down-whole (pos a) b h k = below-zero (most - b) a ∙ sym (in-range (subℕ a (suc b)) (apart a (suc b) (suc most) h (omega arith)))
 down-whole (negsuc a) b h k = down-natural a b (most - b) refl k ∙ range-is (negsuc (suc (a + b)))
 
@@ -89,7 +89,7 @@ negated-in (suc k) h = omega arith
 abbrev pub back : ℤ → ℤ
 back z = toZ w64 (ofZ w64 z)
 
-pub up-test : (m w : ℤ) → SFits w64 m → SFits w64 w → leZ (pos 0) (back w) ≡ true → SFits w64 (pos most -ℤ back w) × (leZ (back m) (back (pos most -ℤ back w)) ≡ signed64 (m +ℤ w))
+pub up-test : (m w : ℤ) → SFits w64 m → SFits w64 w → leZ (pos 0) (back w) ≡ true → SFits w64 (pos most -ℤ back w) × (leZ (back m) (back (pos most -ℤ back w)) ≡ countInRange (m +ℤ w))
 up-test m (negsuc b) F G t = absurd (false≢true (subst (λ (y : ℤ). leZ (pos 0) y ≡ true) (toZ-ofZ w64 (negsuc b) G) t))
 up-test m (pos b) F G t =
     let g = G .sfits in
@@ -102,7 +102,7 @@ up-test m (pos b) F G t =
     left : (x : ℕ) → most - x < suc most
     left x = omega arith
 
-pub down-test : (m w : ℤ) → SFits w64 m → SFits w64 w → leZ (pos 0) (back w) ≡ false → SFits w64 (negsuc most -ℤ back w) × (leZ (back (negsuc most -ℤ back w)) (back m) ≡ signed64 (m +ℤ w))
+pub down-test : (m w : ℤ) → SFits w64 m → SFits w64 w → leZ (pos 0) (back w) ≡ false → SFits w64 (negsuc most -ℤ back w) × (leZ (back (negsuc most -ℤ back w)) (back m) ≡ countInRange (m +ℤ w))
 down-test m (pos b) F G t = absurd (true≢false (sym (le-leb 0 b (omega arith)) ∙ subst (λ (y : ℤ). leZ (pos 0) y ≡ false) (toZ-ofZ w64 (pos b) G) t))
 down-test m (negsuc b) F G t =
     let g = G .sfits in
@@ -117,11 +117,11 @@ down-test m (negsuc b) F G t =
     left x = omega arith
 
 -- where the test passed, the sum is an i64; and what the machine adds up is the sum
-pub sum-fits : (m w : ℤ) (t : Bool) → t ≡ signed64 (m +ℤ w) → t ≡ true → SFits w64 (m +ℤ w)
+pub sum-fits : (m w : ℤ) (t : Bool) → t ≡ countInRange (m +ℤ w) → t ≡ true → SFits w64 (m +ℤ w)
 sum-fits m w t e k = record { sfits = ltb-true (mag (m +ℤ w)) (suc most) (range-is (m +ℤ w) ∙ sym e ∙ k) }
 
-pub test-is : (m w : ℤ) (t b : Bool) → SFits w64 m → SFits w64 w → t ≡ signed64 (back m +ℤ back w) → t ≡ b → signed64 (m +ℤ w) ≡ b
-test-is m w t b F G e k = ap (λ (z : ℤ). signed64 (z +ℤ w)) (sym (toZ-ofZ w64 m F)) ∙ ap (λ (z : ℤ). signed64 (back m +ℤ z)) (sym (toZ-ofZ w64 w G)) ∙ sym e ∙ k
+pub test-is : (m w : ℤ) (t b : Bool) → SFits w64 m → SFits w64 w → t ≡ countInRange (back m +ℤ back w) → t ≡ b → countInRange (m +ℤ w) ≡ b
+test-is m w t b F G e k = ap (λ (z : ℤ). countInRange (z +ℤ w)) (sym (toZ-ofZ w64 m F)) ∙ ap (λ (z : ℤ). countInRange (back m +ℤ z)) (sym (toZ-ofZ w64 w G)) ∙ sym e ∙ k
 
 pub sum-back : (m w : ℤ) → SFits w64 m → SFits w64 w → SFits w64 (back m +ℤ back w) → back (back m +ℤ back w) ≡ m +ℤ w
 sum-back m w F G S = toZ-ofZ w64 (back m +ℤ back w) S ∙ ap (λ (z : ℤ). z +ℤ back w) (toZ-ofZ w64 m F) ∙ ap (λ (z : ℤ). m +ℤ z) (toZ-ofZ w64 w G)

@@ -1,5 +1,5 @@
--- The energy accumulator, the source's `Acc`: its step, its add and its watt hours. Refusal 6 is given for "a sum in `Acc::add` that is not finite or outside -2^63 <= sum < 2^63", and for a new
--- "millijoule count .. outside signed 64 bits": document 01 says the latter of the accounting step, whose counts are these, and the source's addition overflows there in every add.
+-- The energy accumulator, the source's `Acc`: its step, its add and its watt hours. Refusal 6 is given for "a sum in `Acc::add` that is not finite or outside -2^63 <= sum < 2^63", and for "a millijoule
+-- count .. outside signed 64 bits". Document 01 says the second of the accounting step; it is tested in every add, since the source's `mj += w` overflows in any of them (docs/DECISIONS.md).
 use mathlib.Core.Bool.{Bool, _&&_, cond}
 use Prim.Native.Nat.{ℕ, _^_}
 use lib.Dec.{ltb}
@@ -23,13 +23,13 @@ abbrev pub two63 : Float
 two63 = ofBits binary32 0x5f00_0000
 
 -- -2^63 <= x < 2^63, which a NaN and the infinities are not
-unfoldable pub inI64 : Float → Bool
-inI64 x = le (neg two63) x && lt x two63
+unfoldable pub sumInRange : Float → Bool
+sumInRange x = le (neg two63) x && lt x two63
 
 -- -2^63 <= z < 2^63. `negsuc n` is -(n + 1)
-unfoldable pub signed64 : ℤ → Bool
-signed64 (pos n) = ltb n (2 ^ 63)
-signed64 (negsuc n) = ltb n (2 ^ 63)
+unfoldable pub countInRange : ℤ → Bool
+countInRange (pos n) = ltb n (2 ^ 63)
+countInRange (negsuc n) = ltb n (2 ^ 63)
 
 -- Millijoules join the fraction. The whole part of the rounded sum, cut toward zero (`toSigned 63` is Rust's `as i64`), goes to the count, and what is left of the sum is the new fraction.
 -- Full where the sum or the new count is out of range.
@@ -37,7 +37,7 @@ unfoldable pub accStep : Acc → Float → Added
 accStep a millijoules =
     let x = a .frac +f millijoules in
     let w = toSigned 63 x in
-    cond (inI64 x && signed64 (a .mj +ℤ w)) (Sum (record { mj = a .mj +ℤ w; frac = x -f ofInt binary32 w }) w) Full
+    cond (sumInRange x && countInRange (a .mj +ℤ w)) (Sum (record { mj = a .mj +ℤ w; frac = x -f ofInt binary32 w }) w) Full
 
 -- 1000.0
 abbrev pub thousand : Float

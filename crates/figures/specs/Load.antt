@@ -9,7 +9,7 @@ use Rattle.figures.specs.declared.load.Figures.{Figures}
 abbrev pub two : Float
 two = ofBits binary32 0x4000_0000
 
--- the volts behind a resistance r: vM volts and pM watts are measured in front of it, and i amperes flow. The source's `v2`, or zero where that is below zero or a NaN; then the root
+-- the volts behind a resistance r: vM volts and pM watts are measured in front of it, and i amperes flow. The source's `v2`, or zero where that is below zero or a NaN; then the root, which of infinity is a NaN
 unfoldable pub loadVolts : Float → Float → Float → Float → Float
 loadVolts vM pM i r = sqrtOf (maxOf (vM *f vM -f two *f r *f pM +f r *f r *f i *f i) zeroF)
 
@@ -17,11 +17,11 @@ loadVolts vM pM i r = sqrtOf (maxOf (vM *f vM -f two *f r *f pM +f r *f r *f i *
 unfoldable pub powerFactor : Float → Float → Float
 powerFactor p s = cond (lt zeroF s) (clampOf (p /f s) (neg oneF) oneF) zeroF
 
--- s * s - p * p, or zero where that is below zero or a NaN; then the root
+-- s * s - p * p, or zero where that is below zero or a NaN; then the root, which of infinity is a NaN
 unfoldable pub reactive : Float → Float → Float
 reactive p s = sqrtOf (maxOf (s *f s -f p *f p) zeroF)
 
--- from the AC part of the power, the AC and DC parts of voltage and current, and the resistance r, 0 while it does not count
+-- from the AC part of the power, the AC and DC parts of voltage and current, and r ohms between meter and load, 0 where they are not to be taken off
 unfoldable pub totals : Float → Float → Float → Float → Float → Float → Figures
 totals pAc vAc vDc iAc iDc r =
     let pM = pAc +f vDc *f iDc in

@@ -1,5 +1,5 @@
--- Document 01: "Smoothing is `ema`". It is a function of dmm.rs, which is not at hand, so it is decided (docs/DECISIONS.md): the jump by the source's comment at `ema_rel`, "|x - y| > 5 % of .. jumps";
--- the form of the step is chosen.
+-- Document 01: "Smoothing is `ema`". It is a function of dmm.rs, which is not at hand, so it is decided (docs/DECISIONS.md): the jump, strictly beyond win, by the source's comment at `ema_rel`, "|x - y| > 5 % of .. jumps";
+-- the step y + a * (x - y), rounded at each operation, is chosen. So with a NaN in x, y or win there is no jump, and a NaN in y stays.
 use mathlib.Core.Bool.{cond}
 use lib.Ieee.{Float, binary32, lt, ofBits}
 use Rattle.numbers.specs.Binary32.{_+f_, _-f_, _*f_, absOf, maxOf}

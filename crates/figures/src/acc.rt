@@ -2,7 +2,7 @@
 // counts beside a large total.
 ghost use mathlib.Core.Path.{_≡_};
 ghost use lib.IntN.{_+ℤ_};
-ghost use Rattle.figures.specs.Acc.{inI64, signed64, accStep, thousand, addTo, addedNumber, addedAcc, after, wattHours};
+ghost use Rattle.figures.specs.Acc.{sumInRange, countInRange, accStep, thousand, addTo, addedNumber, addedAcc, after, wattHours};
 ghost use Rattle.figures.specs.Exact.{Exact, ExactAfter};
 ghost use Rattle.numbers.specs.Binary32.{_*f_};
 use refusals::Refusal;
@@ -49,8 +49,8 @@ impl Acc {
 }
 
 // -2^63 <= x < 2^63, which a NaN is not.
-fn in_i64(x: f32) -> bool
-    ensures { λ r. ⌜ r ≡ inI64 x ⌝ }
+fn sum_in_range(x: f32) -> bool
+    ensures { λ r. ⌜ r ≡ sumInRange x ⌝ }
 {
     if x >= -9223372036854775808.0 {
         x < 9223372036854775808.0
@@ -59,9 +59,9 @@ fn in_i64(x: f32) -> bool
     }
 }
 
-// Whether m + w is an i64.
-pub fn sum_fits(m: i64, w: i64) -> bool
-    ensures { λ r. ⌜ r ≡ signed64 (m +ℤ w) ⌝ }
+// Whether the count m + w is within signed 64 bits.
+pub fn count_in_range(m: i64, w: i64) -> bool
+    ensures { λ r. ⌜ r ≡ countInRange (m +ℤ w) ⌝ }
 {
     if w >= 0 {
         m <= 9223372036854775807 - w
@@ -78,9 +78,9 @@ pub fn step(a: Acc, millijoules: f32) -> Added
 {
     let x = a.frac + millijoules;
     let mj = a.mj;
-    if in_i64(x) {
+    if sum_in_range(x) {
         let w = numbers::f32_to_i64(x);
-        if sum_fits(mj, w) {
+        if count_in_range(mj, w) {
             let left = x - numbers::i64_to_f32(w);
             return Added::Sum(
                 Acc {

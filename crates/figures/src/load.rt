@@ -14,7 +14,7 @@ pub struct Figures {
 }
 
 // The volts at the load: v_m and p_m are measured in front of the resistance r, where i flows. A
-// square below zero, or a NaN, counts as zero.
+// square below zero, or a NaN, counts as zero; of an infinite one the root is a NaN.
 fn load_volts(v_m: f32, p_m: f32, i: f32, r: f32) -> f32
     ensures { λ v. ⌜ v ≡ loadVolts «v_m» «p_m» i r ⌝ }
 {
@@ -33,7 +33,7 @@ fn power_factor(p: f32, s: f32) -> f32
     }
 }
 
-// The root of s * s - p * p; of a difference below zero, and of a NaN, zero.
+// The root of s * s - p * p: zero of a difference below zero and of a NaN, a NaN of infinity.
 fn reactive_power(p: f32, s: f32) -> f32
     ensures { λ q. ⌜ q ≡ reactive p s ⌝ }
 {

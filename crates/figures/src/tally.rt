@@ -1,7 +1,6 @@
 // The tally: both energies and the time counted, and the accounting step of one interval.
 ghost use mathlib.Core.Path.{_≡_};
-ghost use lib.IntN.{_+ℤ_};
-ghost use Rattle.figures.specs.Tally.{freshTally, energyStep, withTime, accountingStep, accountedTally, accountedWhole};
+ghost use Rattle.figures.specs.Tally.{freshTally, energyStep, withTime, accountingStep, Told};
 use crate::acc::Acc;
 use crate::acc::Added;
 use crate::acc::add_to;
@@ -26,13 +25,13 @@ impl Tally {
 }
 
 // What the accounting step answers: the new tally, with the whole millijoules that its active count
-// gained; or full, refusal 6.
+// gained, for whoever allots active energy; or full, refusal 6.
 pub enum Accounted {
     Counted(Tally, i64),
     Full,
 }
 
-// Nothing counted.
+// Nothing counted: `Tally::ZERO`.
 pub fn fresh() -> Tally
     ensures { λ r. ⌜ r ≡ freshTally ⌝ }
 {
@@ -50,7 +49,7 @@ fn energy_step(active: bool, e: Acc, joules: f32) -> Added
     Added::Sum(e, 0)
 }
 
-// The two energies with the time, where dt more still fits.
+// The two energies with the time t_int + dt, where that is below 2^63.
 fn with_time(e: Acc, whole: i64, va: Acc, t_int: u64, dt: u64) -> Accounted
     ensures { λ r. ⌜ r ≡ withTime e whole va «t_int» dt ⌝ }
 {
@@ -72,10 +71,10 @@ fn with_time(e: Acc, whole: i64, va: Acc, t_int: u64, dt: u64) -> Accounted
 
 // The accounting step of an interval of dt ms at the power p and the apparent power s; the active
 // energy counts where `active` says so (the source's `!alt || dc`). The whole millijoules told are
-// what its count gained.
+// what the active energy's count gained.
 pub fn accounting_step(t: Tally, dt: u64, p: f32, s: f32, active: bool) -> Accounted
     ensures is { λ r. ⌜ r ≡ accountingStep t dt p s active ⌝ }
-    ensures gained { λ r. ⌜ accountedTally t r .e .mj ≡ t .e .mj +ℤ accountedWhole r ⌝ }
+    ensures told { λ r. ⌜ Told t r ⌝ }
 {
     let seconds = numbers::u64_to_f32(dt) * 0.001;
     let e = t.e;

@@ -86,7 +86,7 @@ pub extern "C" fn pw_r36_of(steps: i8) -> u8
     tables::ranges::r36_of(steps)
 }
 
-// An accumulator that nothing was added to.
+// An accumulator that nothing was added to: `Acc::ZERO`.
 #[no_mangle]
 pub extern "C" fn pw_acc_fresh() -> Acc
     ensures { λ r. ⌜ r ≡ freshAcc ⌝ }
@@ -94,7 +94,8 @@ pub extern "C" fn pw_acc_fresh() -> Acc
     Acc::ZERO
 }
 
-// Adds to the host's own accumulator, and answers 0; or 6, full, and it is as it was.
+// Adds to the host's own accumulator, and answers 0; or 6, full, and it is as it was. The body is that
+// of `Acc::add`, which cannot be exported itself: a method cannot be extern.
 #[no_mangle]
 pub extern "C" fn pw_acc_add(acc: &mut Acc, joules: f32) -> u8
     ensures { λ r. ⌜ (r ≡ addedNumber (addTo (now (acc .entry)) joules)) × (now (acc .exit) ≡ addedAcc (now (acc .entry)) (addTo (now (acc .entry)) joules)) × ExactAfter (now (acc .entry)) joules r (now (acc .exit)) ⌝ }

@@ -256,7 +256,7 @@ fn counted(t_int: u64, dt: u64) -> bool {
 }
 
 // Row 61: document 01, a fresh accumulator and twice 1/1024 J. Rows 62 to 67: the sums of refusal 6,
-// "not finite or outside -2^63 <= sum < 2^63". Rows 68 and 69: counted time within signed 64 bits.
+// "not finite or outside -2^63 <= sum < 2^63".
 fn acc_rows(s: Score) -> Score {
     let once = figures::acc::after_add(Acc::ZERO, 0.0009765625);
     let twice = figures::acc::after_add(once.acc, 0.0009765625);
@@ -275,22 +275,43 @@ fn acc_rows(s: Score) -> Score {
         sum_is(Acc::ZERO, 9223371487098961920.0, 9223371487098961920, 0),
     );
     s = row(s, 66, full(Acc::ZERO, 1.0 / 0.0));
-    s = row(s, 67, full(Acc::ZERO, 0.0 / 0.0));
-    s = row(s, 68, counted(9223372036854775806, 1));
-    row(s, 69, !counted(9223372036854775806, 2))
+    row(s, 67, full(Acc::ZERO, 0.0 / 0.0))
 }
 
-// Rows 71 to 76: 3 V and 4 A of direct current in front of half an ohm. By Ohm's law 1 V is left at the
+// Rows 71 to 74: refusal 6 of a count outside signed 64 bits, at both ends. Rows 75 and 76: of the time.
+fn count_rows(s: Score) -> Score {
+    let top = Acc {
+        mj: 9223372036854775807,
+        frac: 0.0,
+    };
+    let bottom = Acc {
+        mj: -9223372036854775808,
+        frac: 0.0,
+    };
+    let mut s = s;
+    s = row(s, 71, full(top, 1.0));
+    s = row(s, 72, sum_is(top, 0.5, 9223372036854775807, 0x3f00_0000));
+    s = row(s, 73, full(bottom, -1.0));
+    s = row(
+        s,
+        74,
+        sum_is(bottom, -0.5, -9223372036854775808, 0xbf00_0000),
+    );
+    s = row(s, 75, counted(9223372036854775806, 1));
+    row(s, 76, !counted(9223372036854775806, 2))
+}
+
+// Rows 81 to 86: 3 V and 4 A of direct current in front of half an ohm. By Ohm's law 1 V is left at the
 // load, so 4 W and 4 VA, of which none is reactive.
 fn totals_rows(s: Score) -> Score {
     let f = figures::load::totals(0.0, 0.0, 3.0, 0.0, 4.0, 0.5);
     let mut s = s;
-    s = row(s, 71, has_bits(f.p, 0x4080_0000));
-    s = row(s, 72, has_bits(f.s, 0x4080_0000));
-    s = row(s, 73, has_bits(f.q, 0));
-    s = row(s, 74, has_bits(f.pf, 0x3f80_0000));
-    s = row(s, 75, has_bits(f.v, 0x3f80_0000));
-    row(s, 76, has_bits(f.i, 0x4080_0000))
+    s = row(s, 81, has_bits(f.p, 0x4080_0000));
+    s = row(s, 82, has_bits(f.s, 0x4080_0000));
+    s = row(s, 83, has_bits(f.q, 0));
+    s = row(s, 84, has_bits(f.pf, 0x3f80_0000));
+    s = row(s, 85, has_bits(f.v, 0x3f80_0000));
+    row(s, 86, has_bits(f.i, 0x4080_0000))
 }
 
 fn main() {
@@ -299,7 +320,8 @@ fn main() {
         differ: 0,
     }));
     let s = max_rows(root_rows(length_rows(s)));
-    let s = totals_rows(acc_rows(description_rows(window_rows(s))));
+    let s = acc_rows(description_rows(window_rows(s)));
+    let s = totals_rows(count_rows(s));
     io::print_decimal(1, s.agree);
     io::write_all(1, b" rows agree, ");
     io::print_decimal(1, s.differ);

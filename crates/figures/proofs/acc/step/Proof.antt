@@ -16,14 +16,14 @@ use Rattle.figures.proofs.Within.{back, sum-fits, test-is, sum-back}
 use Rattle.figures.proofs.acc.step.Statement.{statement}
 use Rattle.figures.proofs.acc.step.Tie as tie
 
-in-i64-requires : tie.Need-in-i64-requires
-in-i64-requires c κs = search needs
+sum-in-range-requires : tie.Need-sum-in-range-requires
+sum-in-range-requires c κs = search needs
 
 f32-to-i64-requires : tie.Need-f32-to-i64-requires
 f32-to-i64-requires c κs = search needs
 
-sum-fits-requires : tie.Need-sum-fits-requires
-sum-fits-requires c κs = search needs
+count-in-range-requires : tie.Need-count-in-range-requires
+count-in-range-requires c κs = search needs
 
 i64-to-f32-requires : tie.Need-i64-to-f32-requires
 i64-to-f32-requires c κs = search needs
@@ -35,7 +35,7 @@ w-fits : (c : tie.After-f32-to-i64) → SFits w64 (c .f32-to-i64 .result)
 w-fits c = record { sfits = c .f32-to-i64 .ok }
 
 add-t10 : tie.Need-add-t10
-add-t10 c = sum-fits (back (c .before .before .before .before .before .before .before .before .args .a .mj)) (back (c .before .before .before .f32-to-i64 .result)) _ (c .before .before .sum-fits .ensures) (c .before .if2 .taken)
+add-t10 c = sum-fits (back (c .before .before .before .before .before .before .before .before .args .a .mj)) (back (c .before .before .before .f32-to-i64 .result)) _ (c .before .before .count-in-range .ensures) (c .before .if2 .taken)
 
 returns : tie.Need-returns
 returns c =
@@ -49,9 +49,9 @@ returns c =
     with-exact a j _
     (ap (λ (z : ℤ). Sum (record { mj = z; frac = a .frac +f j -f r }) (back w)) (sum-back (a .mj) w (mj-fits (i .before)) (w-fits t) (add-t10 c))
     ∙ ap (λ (z : ℤ). Sum (record { mj = a .mj +ℤ w; frac = a .frac +f j -f r }) z) (toZ-ofZ w64 w (w-fits t))
-    ∙ sum-case a j w r (sym (i .in-i64 .ensures) ∙ t .before .if1 .taken) (t .f32-to-i64 .ensures)
+    ∙ sum-case a j w r (sym (i .sum-in-range .ensures) ∙ t .before .if1 .taken) (t .f32-to-i64 .ensures)
     (c .i64-to-f32 .ensures ∙ ap (ofInt binary32) (toZ-ofZ w64 w (w-fits t)))
-    (test-is (a .mj) w _ true (mj-fits (i .before)) (w-fits t) (s .sum-fits .ensures) (c .before .if2 .taken)))
+    (test-is (a .mj) w _ true (mj-fits (i .before)) (w-fits t) (s .count-in-range .ensures) (c .before .if2 .taken)))
 
 returns-2 : tie.Need-returns-2
 returns-2 c =
@@ -62,20 +62,20 @@ returns-2 c =
     let j = i .before .before .before .args .millijoules in
     let w = t .f32-to-i64 .result in
     with-exact a j Full
-    (full-case a j w (sym (i .in-i64 .ensures) ∙ t .before .if1 .taken) (t .f32-to-i64 .ensures)
-    (test-is (a .mj) w _ false (mj-fits (i .before)) (w-fits t) (s .sum-fits .ensures) (c .if2 .left)))
+    (full-case a j w (sym (i .sum-in-range .ensures) ∙ t .before .if1 .taken) (t .f32-to-i64 .ensures)
+    (test-is (a .mj) w _ false (mj-fits (i .before)) (w-fits t) (s .count-in-range .ensures) (c .if2 .left)))
 
 returns-3 : tie.Need-returns-3
 unfolding accStep
-returns-3 c = with-exact _ _ Full (rw (sym (c .before .in-i64 .ensures) ∙ c .if1 .left))
+returns-3 c = with-exact _ _ Full (rw (sym (c .before .sum-in-range .ensures) ∙ c .if1 .left))
 
 pub step-spec : {M : Type 1} → statement M
 step-spec =
     tie.close
     (tie.spec
-    in-i64-requires
+    sum-in-range-requires
     f32-to-i64-requires
-    sum-fits-requires
+    count-in-range-requires
     i64-to-f32-requires
     add-t10
     returns

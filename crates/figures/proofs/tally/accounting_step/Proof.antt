@@ -1,4 +1,4 @@
--- By the two adds' answers, which proofs/Interval.antt ties to the definition. What the count gained follows from the equation.
+-- By the two adds' answers, which proofs/Interval.antt ties to the definition. What is told follows from the equation.
 use mathlib.Core.Path.{ap, _∙_}
 use borrow.Author.Needs.{needs}
 use lib.IntN.{ℤ}
@@ -7,7 +7,7 @@ use mir.ValLaws.{toZ-ofZ}
 use Rattle.figures.specs.Tally.{withTime}
 use Rattle.figures.specs.declared.tally.Accounted.the-variants.{Full}
 use Rattle.figures.proofs.Interval.{counted, apparent-full, energy-full}
-use Rattle.figures.proofs.Stated.{with-gained}
+use Rattle.figures.proofs.Stated.{with-told}
 use Rattle.figures.proofs.tally.accounting_step.Statement.{statement}
 use Rattle.figures.proofs.tally.accounting_step.Tie as tie
 
@@ -44,7 +44,7 @@ returns c =
     let a = m .before .args in
     let e = g .energy .given in
     let v = c .before .before .apparent .given in
-    with-gained (a .t) (a .dt) (a .p) (a .s) (a .active) _
+    with-told (a .t) (a .dt) (a .p) (a .s) (a .active) _
     (c .with-time .ensures
     ∙ ap (λ (w : ℤ). withTime (e .0 .0) w (v .0 .0) (a .t .«t_int») (a .dt)) (toZ-ofZ w64 (e .0 .1 .0) (record { sfits = k .before .known-told .given .1 .0 .1 }))
     ∙ counted (a .t) (a .dt) (a .p) (a .s) (a .active) _ (m .u64-to-f32 .ensures) _ _ _ _ _ _ (n .energy-step .ensures) (k .add-to .ensures .0) (e .1) (v .1))
@@ -56,7 +56,7 @@ returns-2 c =
     let n = g .before .before in
     let m = n .before .before .before in
     let a = m .before .args in
-    with-gained (a .t) (a .dt) (a .p) (a .s) (a .active) Full
+    with-told (a .t) (a .dt) (a .p) (a .s) (a .active) Full
     (apparent-full (a .t) (a .dt) (a .p) (a .s) (a .active) _ (m .u64-to-f32 .ensures) _ _ _ _ (n .energy-step .ensures) (k .add-to .ensures .0) (g .energy .given .1) (c .enum-told .given .1))
 
 returns-3 : tie.Need-returns-3
@@ -64,7 +64,7 @@ returns-3 c =
     let n = c .before .before in
     let m = n .before .before .before in
     let a = m .before .args in
-    with-gained (a .t) (a .dt) (a .p) (a .s) (a .active) Full
+    with-told (a .t) (a .dt) (a .p) (a .s) (a .active) Full
     (energy-full (a .t) (a .dt) (a .p) (a .s) (a .active) _ (m .u64-to-f32 .ensures) _ (n .energy-step .ensures) (c .enum-told2 .given .1))
 
 pub accounting-step-spec : {M : Type 1} → statement M

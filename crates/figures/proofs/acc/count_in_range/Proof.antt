@@ -1,7 +1,7 @@
 -- Above or below zero, m is compared with what w leaves of the range, and that difference is itself in range.
 use Rattle.figures.proofs.Within.{up-test, down-test}
-use Rattle.figures.proofs.acc.sum_fits.Statement.{statement}
-use Rattle.figures.proofs.acc.sum_fits.Tie as tie
+use Rattle.figures.proofs.acc.count_in_range.Statement.{statement}
+use Rattle.figures.proofs.acc.count_in_range.Tie as tie
 
 sub-result : tie.Need-sub-result
 sub-result c = up-test (c .before .args .m) (c .before .args .w) (c .before .fits .m) (c .before .fits .w) (c .if1 .taken) .0
@@ -15,5 +15,5 @@ returns c = up-test (c .before .args .m) (c .before .args .w) (c .before .fits .
 returns-2 : tie.Need-returns-2
 returns-2 c = down-test (c .before .args .m) (c .before .args .w) (c .before .fits .m) (c .before .fits .w) (c .if1 .left) .1
 
-pub sum-fits-spec : {M : Type 1} → statement M
-sum-fits-spec = tie.close (tie.spec sub-result sub-result-2 returns returns-2)
+pub count-in-range-spec : {M : Type 1} → statement M
+count-in-range-spec = tie.close (tie.spec sub-result sub-result-2 returns returns-2)
