@@ -2,6 +2,8 @@
 #ifndef BITS_H
 #define BITS_H
 
+#include <math.h>
+#include <stdbool.h>
 #include <stdint.h>
 #include <string.h>
 
@@ -31,6 +33,12 @@ static inline double double_of(uint64_t b)
     double x;
     memcpy(&x, &b, sizeof x);
     return x;
+}
+
+/* Any two NaNs count as equal, and a zero's sign is compared. */
+static inline bool same32(float x, float y)
+{
+    return isnan(x) ? isnan(y) : bits32(x) == bits32(y);
 }
 
 /* splitmix64 */

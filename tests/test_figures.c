@@ -38,12 +38,6 @@ static void expect(bool holds, const char *what, const uint64_t input[4])
                input[3]);
 }
 
-/* Any two NaNs count as equal, and a zero's sign is compared. */
-static bool same32(float x, float y)
-{
-    return isnan(x) ? isnan(y) : bits32(x) == bits32(y);
-}
-
 /* ---- totals ---- */
 
 static bool same_figures(struct leaf_figures a, struct leaf_figures b)

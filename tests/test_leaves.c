@@ -36,12 +36,7 @@ static void expect(int same, const char *what, uint64_t input)
         printf("%s differs at %016" PRIx64 "\n", what, input);
 }
 
-/* Any two NaNs count as equal, and a zero's sign is compared. */
-static int same32(float x, float y)
-{
-    return isnan(x) ? isnan(y) : bits32(x) == bits32(y);
-}
-
+/* As same32 of bits.h. */
 static int same64(double x, double y)
 {
     return isnan(x) ? isnan(y) : bits64(x) == bits64(y);

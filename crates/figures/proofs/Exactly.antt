@@ -1,16 +1,17 @@
 -- Document 01: "whole part plus fraction equals the rounded sum exactly". Of every sum that `accStep` counts, by the remainder's exactness and a little algebra with signs.
-use mathlib.Core.Bool.{Bool, true, false, _&&_, _||_, cond, false≢true}
+use mathlib.Core.Bool.{Bool, true, false, _&&_, cond, false≢true}
 use mathlib.Core.Logic.{inl, inr}
 use mathlib.Core.Path.{_≡_, refl, sym, ap, _∙_, subst}
-use Prim.Native.Nat.{ℕ, zero, suc, _+_, _-_, _*_, _/_, _%_, _^_, _≤_, _<_, min}
-use native.Mathlib.Nat.{le-of-eq, le-of-lt, zero-mul, mul-comm, mul-right-comm, mul-lt-mul-of-pos-right, lt-of-mul-lt-mul-right, mod-lt, add-mul, div-add-mod', div-lt-iff-lt-mul, div-le-of-le-mul, eq-of-mul-eq-mul-right}
+use Prim.Native.Nat.{ℕ, zero, suc, _+_, _*_, _/_, _%_, _<_}
+use native.Mathlib.Nat.{zero-mul, mul-comm, mul-right-comm, mul-lt-mul-of-pos-right, lt-of-mul-lt-mul-right, mod-lt, add-mul, div-add-mod', eq-of-mul-eq-mul-right}
 use native.Mathlib.Omega.{arith}
-use borrow.Author.Tests.{lt-ltb, ltb-true, eqb-true}
-use lib.Dec.{T, ltb, eqb}
+use borrow.Author.Tests.{lt-ltb}
+use lib.Dec.{T}
 use lib.Ieee.Fits.{down-pos, add-fits}
 use lib.Ieee.{Float, nan, inf, fin, binary32, up, down, neg, ofInt, toSigned, fits, lt, le, eq, ofBits}
 use lib.IntN.{ℤ, pos, negℤ, _+ℤ_, _*ℤ_, negℤ-+ℤ, pos-+ℤ-pos, pos-*ℤ-pos, negsuc-*ℤ-pos}
 use Rattle.numbers.specs.Binary32.{oneF, isFinite, absOf, _+f_, _-f_, _*f_}
+use Rattle.numbers.proofs.Cutting.{inside}
 use Rattle.figures.specs.Acc.{two63, sumInRange, countInRange, accStep, thousand, addTo, addedNumber, addedAcc}
 use Rattle.figures.specs.Exact.{withSign, IsWholePlus, Exact, ExactAfter}
 use Rattle.figures.specs.declared.acc.Acc.{Acc}
@@ -75,42 +76,13 @@ whole-plus s m e (fin t n g) (inr v) =
       summed s t (m * up e) (down e) (n * up g) (down g) (with-sign-zero t s (n * up g) none) (v .1 .1),
     )
 
--- ---- Rust's `as i64` cuts where the float is in range
-capped : (i c : ℕ) → i < c → min i (c - 1) ≡ i
-capped i c h = omega arith
-
-capped-le : (i c : ℕ) → i ≤ c → min i c ≡ i
-capped-le i c h = omega arith
-
-or-le : (A B : ℕ) (q : Bool) → (ltb A B || (eqb B A && q)) ≡ true → A ≤ B
-or-le A B q h = go (ltb A B) (eqb B A) (ltb-true A B) (eqb-true B A) h
-  where
-    go : (x y : Bool) → (x ≡ true → A < B) → (y ≡ true → B ≡ A) → (x || (y && q)) ≡ true → A ≤ B
-    go true y f g k = le-of-lt (f refl)
-    go false true f g k = le-of-eq (sym (g refl))
-    go false false f g k = absurd (false≢true k)
-
+-- ---- in range the cut is the whole part
 cut-is : (x : Float) → le (fin true 1 (pos 63)) x ≡ true → lt x (fin false 1 (pos 63)) ≡ true → T (fits binary32 x) → IsWholePlus x (toSigned 63 x) (x -f ofInt binary32 (toSigned 63 x))
-unfolding le lt eq toSigned
+unfolding le lt eq
 cut-is nan l u F = absurd (false≢true u)
 cut-is (inf true) l u F = absurd (false≢true l)
 cut-is (inf false) l u F = absurd (false≢true u)
-cut-is (fin false m e) l u F =
-    let i = m * up e / down e in
-    let h : i < 2 ^ 63 = div-lt-iff-lt-mul (down-pos e) .1 (tidy (m * up e) (down e) (ltb-true (m * up e * 1) (2 ^ 63 * down e) u)) in
-    let w : pos (min i (2 ^ 63 - 1)) ≡ pos i = ap pos (capped i (2 ^ 63) h) in
-    subst (λ (z : ℤ). IsWholePlus (fin false m e) z (fin false m e -f ofInt binary32 z)) (sym w) (whole-plus false m e _ (rest-of false m e (held false m e F)))
-  where
-    tidy : (x y : ℕ) → x * 1 < 9223372036854775808 * y → x < 9223372036854775808 * y
-    tidy x y p = omega arith
-cut-is (fin true m e) l u F =
-    let i = m * up e / down e in
-    let h : i ≤ 2 ^ 63 = div-le-of-le-mul (down e) (tidy (m * up e) (down e) (or-le (m * up e * 1) (2 ^ 63 * down e) true l)) in
-    let w : negℤ (pos (min i (2 ^ 63))) ≡ negℤ (pos i) = ap (λ (z : ℕ). negℤ (pos z)) (capped-le i (2 ^ 63) h) in
-    subst (λ (z : ℤ). IsWholePlus (fin true m e) z (fin true m e -f ofInt binary32 z)) (sym w) (whole-plus true m e _ (rest-of true m e (held true m e F)))
-  where
-    tidy : (x y : ℕ) → x * 1 ≤ 9223372036854775808 * y → x ≤ y * 9223372036854775808
-    tidy x y p = omega arith
+cut-is (fin s m e) l u F = subst (λ (z : ℤ). IsWholePlus (fin s m e) z (fin s m e -f ofInt binary32 z)) (sym (inside 63 s m e l u)) (whole-plus s m e _ (rest-of s m e (held s m e F)))
 
 two63-is : two63 ≡ fin false 1 (pos 63)
 unfolding ofBits

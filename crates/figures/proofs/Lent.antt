@@ -1,6 +1,6 @@
--- A walk over a lent accumulator: every function that has the body below meets the contract of `Acc::add`. The borrow is opened, the record is copied and passed to `after_add`,
--- whose result's record is stored over it, and the borrow is closed at that record. The borrow stays open over the call, since `after_add` takes a record by value and asks for no lifetime;
--- all that the walk knows of `after_add` is its contract.
+-- A walk over a lent accumulator: every function that has the body below meets each contract that follows from what `after_add` says of the record and the number. The borrow is opened, the record
+-- is copied and passed to `after_add`, whose result's record is stored over it, and the borrow is closed at that record. The borrow stays open over the call, since `after_add` takes a record by value
+-- and asks for no lifetime; all that the walk knows of `after_add` is its contract.
 use mathlib.Core.List.{[], _∷_, List}
 use mathlib.Core.Path.{_≡_, refl, sym, ap, subst}
 use Prim.Native.Nat.{ℕ}
@@ -10,13 +10,14 @@ use lib.Ieee.{Float, binary32}
 use mir.Syntax.{named, w8, Fn, local, valueLocal, tyInt, tyRef, tyNamed, tyFloat, mut, seq, assign, call, return, place, rvOpd, copy, deref, field}
 use mir.Val.{Val, vptr}
 use base.Fml.{GName, Lft, Share, ftrue, flft, fobs, fbor, fat}
-use base.Logic.{SProp, ent, sep, emp, via, fst∗, snd∗, exE, id⊢}
+use base.Logic.{SProp, ent, sep, emp, via, fst∗, snd∗, exE, id⊢, emp∗, monoL, comm∗}
 use prog.Memory.{Memory}
 use prog.Routine.{Routine}
 use prog.Wp.{Heap, Calls, Loops, WpFn, Tables}
 use ghost.Atoms.{Atoms, sem}
+use contract.Lifetimes.{Lfts}
 use contract.Monad.{Fun, fact}
-use types.Kit.{Given, ‵, raw, _⊛_, some, later, _$_, _∵_, !, qed, by, move, keep, drop, use1, split, join, pick, rewrite, fsplit, fsplit3, fjoin, fjoin3, feqI, suffices, frame, await, done}
+use types.Kit.{Given, Item, prop, Step, step, ‵, raw, _⊛_, some, later, _$_, _∵_, !, qed, by, move, keep, drop, use1, split, join, pick, rewrite, fsplit, fsplit3, fjoin, fjoin3, feqI, suffices, frame, await, done}
 use types.Part.{whole, sub, look-in}
 use types.Run.{look, look-raw, init, store-raw, forget, stop, hop, fld, from, load, and-then, no-more, of-opd, assigns, land, returns, enter, alloc1, alloc0, params1, pass1, pass0, free1, free0}
 use types.SemTy.{Body}
@@ -34,12 +35,12 @@ use denote.Steps.{only, opens, closes, owned, peeks, heard, nothing}
 use denote.Struct.Laws as LL
 use denote.Struct.Steps.{spelt}
 use denote.Triple.Call.{calls-at}
-use denote.Triple.Clauses.{ensured, lasts}
-use denote.Triple.Entry.{onEntry}
+use denote.Triple.Clauses.{Clauses, ensured, lasts, atExit, closing}
+use denote.Triple.Entry.{onEntry, Args}
 use denote.Triple.Spec.{Meets, tripleOf}
 use denote.Triple.Statement.{Contract, Triple}
-use denote.Triple.Walked.{says, Stays, stay-ref, stay-none, walkOf, AllGo, goes-none, goes-ref, Walks, ends-at, walked, walk-meets}
-use Rattle.figures.specs.Acc.{addTo, after}
+use denote.Triple.Walked.{Stays, stay-ref, stay-none, walkOf, AllGo, goes-none, goes-ref, Walks, ends-at, walked, walk-meets}
+use Rattle.figures.specs.Acc.{addTo, addedNumber, addedAcc, after}
 use Rattle.figures.specs.Exact.{ExactAfter}
 use Rattle.figures.specs.declared.acc.Acc.{Acc}
 use Rattle.figures.specs.declared.acc.After.{After}
@@ -79,6 +80,18 @@ vals = LL.vals T.the-type T′.the-laws
 abbrev Said : Acc → Float → After → Type 0
 Said h joules r = r ≡ after h (addTo h joules)
 
+-- number, record, and the exact sum: what the adds promise
+pub told : (h : Acc) (joules : Float) (r : After) → Said h joules r → (r .refusal ≡ addedNumber (addTo h joules)) × (r .acc ≡ addedAcc h (addTo h joules)) × ExactAfter h joules (r .refusal) (r .acc)
+told h joules r e = (ap (λ (y : After). y .refusal) e, ap (λ (y : After). y .acc) e, subst (λ (y : After). ExactAfter h joules (y .refusal) (y .acc)) (sym e) (exactly-after h joules))
+
+-- the clauses c hold at the exit wherever `after_add` said what it says
+abbrev pub Follows : {M : Type 1} (𝓤 : URA M) → Clauses 𝓤 f.ended → Type 1
+Follows 𝓤 c = (κs : Lfts 1) (a : Args f.signature κs) (g : c κs a .ghost) (r : After) → Said (a .0 .now) (a .1 .0) r → ent 𝓤 (emp 𝓤) (c κs a .ensures g (r .refusal) (atExit f.ended κs a (r .acc, (tt, tt))))
+
+-- as the kit's `says`, for a clause that is not written out
+promises : {M : Type 1} {𝓤 : URA M} {H : Heap 𝓤} {A : Atoms 𝓤} {K : Type 0} {W : Given 𝓤 H A} {Γ : List (Item 𝓤)} → K → {P Q : SProp 𝓤} → ent 𝓤 (emp 𝓤) Q → Step K W Γ (prop P) Γ (prop (sep 𝓤 P Q))
+promises {𝓤 = 𝓤} t {P} {Q} k = step (λ s. record { prf = via 𝓤 P (s .prf) (via 𝓤 (sep 𝓤 (emp 𝓤) P) (emp∗ 𝓤 P) (via 𝓤 (sep 𝓤 Q P) (monoL 𝓤 P k) (comm∗ 𝓤 Q P))) })
+
 -- the contract that the proof cites
 abbrev pub Core : {M : Type 1} (𝓤 : URA M) (H : Heap 𝓤) (A : Atoms 𝓤) (at-mem : Memory → SProp 𝓤) (run : Routine → Fun 𝓤) → Contract 𝓤
 Core 𝓤 H A at-mem run = tripleOf 𝓤 H A core.signature (core.spec 𝓤 H A at-mem run)
@@ -95,7 +108,7 @@ record-is r v is = LL.owed P.the-type P′.the-laws r (v ∷ []) is .0
 out-is : (r : After) (v : Val) → Is P.the-row r (v ∷ []) → Is u8 (r .refusal) (uint-vals w8 (r .refusal))
 out-is r v is = LL.owed P.the-type P′.the-laws r (v ∷ []) is .1 .0
 
-module _ {M : Type 1} (𝓤 : URA M) (H : Heap 𝓤) (A : Atoms 𝓤) (W : Given 𝓤 H A) (at-mem : Memory → SProp 𝓤) (run : Routine → Fun 𝓤) (κ : Lft) (q : Share) (b o : ℕ) (γ : GName) (h : Acc) (joules : Float) (is-joules : Is f32 joules (float-vals binary32 joules)) where
+module _ {M : Type 1} (𝓤 : URA M) (H : Heap 𝓤) (A : Atoms 𝓤) (W : Given 𝓤 H A) (at-mem : Memory → SProp 𝓤) (run : Routine → Fun 𝓤) (κ : Lft) (q : Share) (b o : ℕ) (γ : GName) (h : Acc) (joules : Float) (is-joules : Is f32 joules (float-vals binary32 joules)) (c : Clauses 𝓤 f.ended) (follows : Follows 𝓤 c) (g : c (κ, tt) (record { ptr = (b, o); name = γ; now = h }, (joules, tt)) .ghost) where
   abbrev x : Arg
   x = (record { ptr = (b, o); name = γ; now = h }, (joules, tt))
 
@@ -103,14 +116,14 @@ module _ {M : Type 1} (𝓤 : URA M) (H : Heap 𝓤) (A : Atoms 𝓤) (W : Given
   at = (vptr b o ∷ [], (float-vals binary32 joules, tt))
 
   abbrev Post : Val → SProp 𝓤
-  Post = walkOf 𝓤 H A f.ended stayed (f.clauses 𝓤 H A at-mem run) .post (((κ, tt), (q, tt), tt, x, at), tt)
+  Post = walkOf 𝓤 H A f.ended stayed c .post (((κ, tt), (q, tt), tt, x, at), g)
 
   exits : (r : After) → Is u8 (r .refusal) (uint-vals w8 (r .refusal)) → Said h joules r
       → ent 𝓤 (sep 𝓤 (A .obs γ (T.the-row .coded .code (r .acc))) (sep 𝓤 (A .bor κ (Body (mem T.the-row) b o γ)) (A .lft κ q))) (Post (only (uint-vals w8 (r .refusal))))
   exits r is e =
       qed W (‵ (fobs γ (T.the-row .coded .code (r .acc))) ∷ ‵ (fbor κ (Body (mem T.the-row) b o γ)) ∷ ‵ (flft κ q) ∷ []) ∵
-      suffices ! _ (ends-at 𝓤 H A f.ended stayed (f.clauses 𝓤 H A at-mem run) W (((κ, tt), (q, tt), tt, x, at), tt) (only (uint-vals w8 (r .refusal))) (r .refusal) (r .acc, (tt, tt)) (tt, (tt, tt))) $
-      says ! (ap (λ (y : After). y .refusal) e, ap (λ (y : After). y .acc) e, subst (λ (y : After). ExactAfter h joules (y .refusal) (y .acc)) (sym e) (exactly-after h joules)) $ nothing ! $ move ! (3 ∷ 0 ∷ []) $ join ! $
+      suffices ! _ (ends-at 𝓤 H A f.ended stayed c W (((κ, tt), (q, tt), tt, x, at), g) (only (uint-vals w8 (r .refusal))) (r .refusal) (r .acc, (tt, tt)) (tt, (tt, tt))) $
+      promises ! (follows (κ, tt) x g r e) $ nothing ! $ move ! (3 ∷ 0 ∷ []) $ join ! $
       frame ! $ feqI ! (List Val) (vptr b o ∷ []) (vptr b o ∷ []) refl $ fjoin3 ! $ nothing ! $ owned ! f32 (Is f32) (float-makes 𝓤 H A W binary32) joules _ is-joules $ fjoin ! $ move ! (1 ∷ 0 ∷ []) $ fjoin ! $
       frame ! $ owned ! u8 (Is u8) (uint-makes 𝓤 H A W w8) (r .refusal) _ is $ done !
 
@@ -151,16 +164,16 @@ module _ {M : Type 1} (𝓤 : URA M) (H : Heap 𝓤) (A : Atoms 𝓤) (W : Given
         move ! (11 ∷ 12 ∷ []) $ free1 ! $ move ! (9 ∷ 10 ∷ []) $ free1 ! $ move ! (7 ∷ 8 ∷ []) $ free1 ! $ move ! (5 ∷ 6 ∷ []) $ free1 ! $ move ! (3 ∷ 4 ∷ []) $ free1 ! $ free0 ! $
         keep ! (0 ∷ 1 ∷ 2 ∷ []) $ by ! (exits r (out-is r v is) e))))))))))))
 
-module _ {M : Type 1} (𝓤 : URA M) (H : Heap 𝓤) (A : Atoms 𝓤) (W : Given 𝓤 H A) (at-mem : Memory → SProp 𝓤) (run : Routine → Fun 𝓤) where
-  walks : (C : Calls 𝓤 H) (Λ : Loops 𝓤 H) → FmC 𝓤 H (W .laws) C → Triple 𝓤 (C #core) (Core 𝓤 H A at-mem run) → Walks 𝓤 H A f.ended stayed (WpFn 𝓤 H C Λ body) (f.clauses 𝓤 H A at-mem run)
-  walks C Λ fm known = walked 𝓤 H A f.ended stayed (f.clauses 𝓤 H A at-mem run) (WpFn 𝓤 H C Λ body) (λ κs. (ptr-vals, (float-vals binary32, tt))) (λ κs. (mut-tells (named 0) (κs .0) T.the-row, (float-tells binary32, tt)))
-      (λ κs qs bounds a _ are. via 𝓤 _ (fst∗ 𝓤 _ (emp 𝓤)) (walk 𝓤 H A W at-mem run (κs .0) (qs .0) (a .0 .ptr .0) (a .0 .ptr .1) (a .0 .name) (a .0 .now) (a .1 .0) (are .1 .0) C Λ fm known))
+module _ {M : Type 1} (𝓤 : URA M) (H : Heap 𝓤) (A : Atoms 𝓤) (W : Given 𝓤 H A) (at-mem : Memory → SProp 𝓤) (run : Routine → Fun 𝓤) (c : Clauses 𝓤 f.ended) (follows : Follows 𝓤 c) where
+  walks : (C : Calls 𝓤 H) (Λ : Loops 𝓤 H) → FmC 𝓤 H (W .laws) C → Triple 𝓤 (C #core) (Core 𝓤 H A at-mem run) → Walks 𝓤 H A f.ended stayed (WpFn 𝓤 H C Λ body) c
+  walks C Λ fm known = walked 𝓤 H A f.ended stayed c (WpFn 𝓤 H C Λ body) (λ κs. (ptr-vals, (float-vals binary32, tt))) (λ κs. (mut-tells (named 0) (κs .0) T.the-row, (float-tells binary32, tt)))
+      (λ κs qs bounds a g are. via 𝓤 _ (fst∗ 𝓤 _ (c κs a .requires g)) (walk 𝓤 H A W at-mem run (κs .0) (qs .0) (a .0 .ptr .0) (a .0 .ptr .1) (a .0 .name) (a .0 .now) (a .1 .0) (are .1 .0) c follows g C Λ fm known))
 
   goes : AllGo 𝓤 H A W 1 (f.signature .params) (f.ended .kept) stayed
   goes = (goes-ref 𝓤 H A W 1 0 tt (plain (λ _. T.the-row)), (goes-none 𝓤 H A W 1 (λ _. f32) yes (λ κs x f. refl), tt))
 
-pub meets : {M : Type 1} (𝓤 : URA M) (H : Heap 𝓤) (A : Atoms 𝓤) → Given 𝓤 H A → (at-mem : Memory → SProp 𝓤) (run : Routine → Fun 𝓤) (𝓣 : Tables 𝓤 H) → Triple 𝓤 (𝓣 .C #core) (Core 𝓤 H A at-mem run)
-    → Meets 𝓤 H A f.signature (WpFn 𝓤 H (𝓣 .C) (𝓣 .Λ) body) (f.spec 𝓤 H A at-mem run)
-meets 𝓤 H A W at-mem run 𝓣 known =
-    walk-meets 𝓤 H A f.ended stayed W (goes 𝓤 H A W at-mem run) (f.clauses 𝓤 H A at-mem run) (WpFn 𝓤 H (𝓣 .C) (𝓣 .Λ) body) (WpFn-mono 𝓤 H (W .laws) 𝓣 body)
-    (walks 𝓤 H A W at-mem run (𝓣 .C) (𝓣 .Λ) (fmOf 𝓤 H (W .laws) 𝓣) known)
+pub meets : {M : Type 1} (𝓤 : URA M) (H : Heap 𝓤) (A : Atoms 𝓤) → Given 𝓤 H A → (at-mem : Memory → SProp 𝓤) (run : Routine → Fun 𝓤) (c : Clauses 𝓤 f.ended) → Follows 𝓤 c
+    → (𝓣 : Tables 𝓤 H) → Triple 𝓤 (𝓣 .C #core) (Core 𝓤 H A at-mem run) → Meets 𝓤 H A f.signature (WpFn 𝓤 H (𝓣 .C) (𝓣 .Λ) body) (closing 𝓤 H A f.ended c)
+meets 𝓤 H A W at-mem run c follows 𝓣 known =
+    walk-meets 𝓤 H A f.ended stayed W (goes 𝓤 H A W at-mem run c follows) c (WpFn 𝓤 H (𝓣 .C) (𝓣 .Λ) body) (WpFn-mono 𝓤 H (W .laws) 𝓣 body)
+    (walks 𝓤 H A W at-mem run c follows (𝓣 .C) (𝓣 .Λ) (fmOf 𝓤 H (W .laws) 𝓣) known)

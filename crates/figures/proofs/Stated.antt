@@ -9,7 +9,8 @@ use lib.Dec.{ltb}
 use lib.Ieee.{Float, nan, inf, fin, le, lt, eq, neg, ofBits, binary32, ofInt, toSigned}
 use lib.IntN.{_+ℤ_, +ℤ-idr}
 use Rattle.numbers.specs.Binary32.{_+f_, _-f_, _*f_, isFinite}
-use Rattle.figures.specs.Acc.{sumInRange, countInRange, accStep, addTo, addedAcc, addedWhole}
+use Rattle.figures.specs.Acc.{sumInRange, countInRange, accStep, thousand, addTo, addedAcc, addedWhole}
+use Rattle.figures.specs.Exact.{Exact}
 use Rattle.figures.specs.Tally.{seconds, energyStep, withTime, both, accountingStep, accountedNumber, accountedTally, accountedWhole, Told}
 use Rattle.figures.specs.declared.acc.Acc.{Acc}
 use Rattle.figures.specs.declared.acc.Added.the-variants as added
@@ -17,6 +18,7 @@ use Rattle.figures.specs.declared.acc.Added.{Added}
 use Rattle.figures.specs.declared.tally.Accounted.the-variants.{Counted, Full}
 use Rattle.figures.specs.declared.tally.Accounted.{Accounted}
 use Rattle.figures.specs.declared.tally.Tally.{Tally}
+use Rattle.figures.proofs.Exactly.{exactly}
 
 outside : (x : Float) → isFinite x ≡ false → sumInRange x ≡ false
 unfolding isFinite sumInRange le lt eq neg ofBits
@@ -49,23 +51,14 @@ full-exactly a j = go (sumInRange x && countInRange (a .mj +ℤ toSigned 63 x))
     go false = ((λ h. refl), (λ h. refl))
 
 -- ---- the whole millijoules
-step-gains : (a : Acc) (j : Float) → addedAcc a (accStep a j) .mj ≡ a .mj +ℤ addedWhole (accStep a j)
-unfolding accStep
-step-gains a j = go (sumInRange x && countInRange (a .mj +ℤ toSigned 63 x))
-  where
-    x : Float
-    x = a .frac +f j
-
-    sum : Added
-    sum = added.Sum (record { mj = a .mj +ℤ toSigned 63 x; frac = x -f ofInt binary32 (toSigned 63 x) }) (toSigned 63 x)
-
-    go : (t : Bool) → addedAcc a (cond t sum added.Full) .mj ≡ a .mj +ℤ addedWhole (cond t sum added.Full)
-    go true = refl
-    go false = sym (+ℤ-idr (a .mj))
+answer-gains : (a : Acc) (j : Float) (r : Added) → Exact a j r → addedAcc a r .mj ≡ a .mj +ℤ addedWhole r
+unfolding Exact
+answer-gains a j (added.Sum b w) h = h .1
+answer-gains a j added.Full h = sym (+ℤ-idr (a .mj))
 
 energy-gains : (active : Bool) (a : Acc) (j : Float) → addedAcc a (energyStep active a j) .mj ≡ a .mj +ℤ addedWhole (energyStep active a j)
 unfolding energyStep addTo
-energy-gains true a j = step-gains a _
+energy-gains true a j = answer-gains a (j *f thousand) (accStep a (j *f thousand)) (exactly a (j *f thousand))
 energy-gains false a j = sym (+ℤ-idr (a .mj))
 
 both-gain : (t : Tally) (E A : Added) (dt : ℕ) → addedAcc (t .e) E .mj ≡ t .e .mj +ℤ addedWhole E

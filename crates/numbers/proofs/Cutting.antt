@@ -14,6 +14,7 @@ use lib.Ieee.Fits.{down-pos}
 use mir.Syntax.{Width, w64}
 use mir.Val.{SFits, toZ, ofZ}
 use mir.ValLaws.{toZ-ofZ, toZ-pos}
+use Rattle.numbers.proofs.Order.{le-neg}
 use Rattle.numbers.proofs.Pattern.{is-nan, below-nan}
 use Rattle.numbers.proofs.Shift.{Shifted, shift-is, shift-in}
 use Rattle.numbers.proofs.Round.{by-fields, at-field}
@@ -102,6 +103,17 @@ module _ (h : ℕ) where
   low (fin true m e) t =
       let A : 2 ^ h * down e < m * up e = simp (one-mul, mul-one) at (ltb-true (1 * 2 ^ h * down e) (m * up e * 1) t) in
       sym (ap (λ (z : ℕ). negℤ (pos z)) (cap-le (m * up e / down e) (2 ^ h) (le-div-iff-mul-le (down-pos e) .1 (le-of-lt A))))
+
+  -- from -2 ^ h on and below 2 ^ h: the whole part
+  pub inside : (s : Bool) (m : ℕ) (e : ℤ) → le (fin true 1 (pos h)) (fin s m e) ≡ true → lt (fin s m e) (fin false 1 (pos h)) ≡ true
+      → toSigned h (fin s m e) ≡ cond s (negℤ (pos (m * up e / down e))) (pos (m * up e / down e))
+  unfolding le lt eq neg toSigned
+  inside false m e l u =
+      let A : m * up e < 2 ^ h * down e = simp (one-mul, mul-one) at (ltb-true (m * up e * 1) (1 * 2 ^ h * down e) u) in
+      ap pos (capped (m * up e / down e) (2 ^ h) (div-lt-iff-lt-mul (down-pos e) .1 A))
+  inside true m e l u =
+      let A : m * up e ≤ 2 ^ h * down e = simp (one-mul, mul-one) at (or-le (m * up e * 1) (1 * 2 ^ h * down e) (sym (le-neg (fin false 1 (pos h)) (fin false m e)) ∙ l)) in
+      ap (λ (z : ℕ). negℤ (pos z)) (capped-le (m * up e / down e) (2 ^ h) (div-le-of-le-mul (down e) (le-trans A (le-of-eq (mul-comm (2 ^ h) (down e))))))
 
 -- between: what the truncation to 64 bits requires, and that its answer is the cut to h bits
 abbrev pub Cuts : ℕ → Float → Type 0

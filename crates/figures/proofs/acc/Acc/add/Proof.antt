@@ -1,8 +1,10 @@
--- The walk over the lent record is in proofs/Lent.antt; here it is tied to this function's code and to what `after_add` promises.
+-- The walk over the lent record is in proofs/Lent.antt. Here it is tied to this function's code, to what `after_add` promises, and to this contract, which `told` shows.
+use base.Logic.{emp}
+use contract.Monad.{factI}
 use contract.Running.{givenOf, tables, tablesOf}
 use denote.Triple.Spec.{tripleOf}
 use denote.Triple.Table.{entered, cited}
-use Rattle.figures.proofs.Lent.{Core, meets}
+use Rattle.figures.proofs.Lent.{Core, told, meets}
 use Rattle.figures.proofs.acc.Acc.add as f
 use Rattle.figures.proofs.acc.Acc.add.Code as code
 use Rattle.figures.proofs.acc.Acc.add.Key.{name as #fn}
@@ -16,5 +18,7 @@ unfolding code.routine tablesOf
 add-spec 𝓤 H 𝓜 𝓖 𝓡 =
     entered 𝓤 H (tripleOf 𝓤 H (𝓖 .A) f.signature (f.spec 𝓤 H (𝓖 .A) (𝓜 .mem) (𝓡 .run)))
     (tables 𝓤 H 𝓜 𝓡 code.env .C) (tables 𝓤 H 𝓜 𝓡 code.env .Λ) #fn code.function (code.unfolded 𝓤 H 𝓜 𝓡)
-    (meets 𝓤 H (𝓖 .A) (givenOf 𝓤 H 𝓜 𝓖) (𝓜 .mem) (𝓡 .run) (tablesOf 𝓤 H 𝓜 (tables 𝓤 H 𝓜 𝓡 code.env))
+    (meets 𝓤 H (𝓖 .A) (givenOf 𝓤 H 𝓜 𝓖) (𝓜 .mem) (𝓡 .run) (f.clauses 𝓤 H (𝓖 .A) (𝓜 .mem) (𝓡 .run))
+    (λ κs a g r e. let t = told (a .0 .now) (a .1 .0) r e in factI 𝓤 _ (emp 𝓤) (t .0, t .1, t .2))
+    (tablesOf 𝓤 H 𝓜 (tables 𝓤 H 𝓜 𝓡 code.env))
     (cited 𝓤 H (Core 𝓤 H (𝓖 .A) (𝓜 .mem) (𝓡 .run)) 𝓜 𝓡 code.env #core core-def.routine code.calls-figures·acc·after-add (core-thm.met 𝓤 H 𝓜 𝓖 𝓡)))
