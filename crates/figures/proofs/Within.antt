@@ -28,7 +28,7 @@ in-range z h = sym (range-is z) ∙ lt-ltb (mag z) (suc most) h
 -- ---- over the integers
 
 -- a - b is no larger than a and b are
-apart : (a b c : ℕ) → a < c → b ≤ c → mag (subℕ a b) < c
+pub apart : (a b c : ℕ) → a < c → b ≤ c → mag (subℕ a b) < c
 apart a b c h k = go (ltb a b) (ltb-true a b)
   where
     below : a < b → b - suc a < c

@@ -61,9 +61,22 @@ noCorrections =
 abbrev pub noJob : Job
 noJob =
     record {
-        job = 0; «job_step» = 0; «job_n» = 0; «job_a» = zeroF; «job_b» = zeroF; «job_dc» = false;
-        «job_raw» = replicate 2 zeroF; «job_ref» = replicate 2 zeroF; «job_zx» = replicate 6 (pos 0); «job_zd» = replicate 6 (pos 0);
-        «job_save» = freshRanges; «job_res» = jrNone; «job_vr» = 0; «job_last» = 0; used = 0 }
+      job = 0;
+      «job_step» = 0;
+      «job_n» = 0;
+      «job_a» = zeroF;
+      «job_b» = zeroF;
+      «job_dc» = false;
+      «job_raw» = replicate 2 zeroF;
+      «job_ref» = replicate 2 zeroF;
+      «job_zx» = replicate 6 (pos 0);
+      «job_zd» = replicate 6 (pos 0);
+      «job_save» = freshRanges;
+      «job_res» = jrNone;
+      «job_vr» = 0;
+      «job_last» = 0;
+      used = 0;
+    }
 
 abbrev pub freshComparator : Comparator
 freshComparator = record { r20 = r20Sense; r21 = r21Default; «f_ok» = true; «cmp_vr» = 255 }
@@ -71,13 +84,34 @@ freshComparator = record { r20 = r20Sense; r21 = r21Default; «f_ok» = true; «
 abbrev pub emptyRing : Ring
 emptyRing =
     record {
-        stat = replicate 16 0; disc = replicate 16 false; rms = replicate 16 (pos 0); lpf = replicate 16 (pos 0); dt = replicate 16 0;
-        «ring_k» = 0; «t_res» = 0 }
+      stat = replicate 16 0;
+      disc = replicate 16 false;
+      rms = replicate 16 (pos 0);
+      lpf = replicate 16 (pos 0);
+      dt = replicate 16 0;
+      «ring_k» = 0;
+      «t_res» = 0;
+    }
 
 -- with the description and the words that it was made with. `barred` is dmm.rs's overload, of which document 01 keeps the barred unit alone: 0 is none
 unfoldable pub newPw : Description → Calibration → Pw
 newPw d c =
     record {
-        description = d; calibration = c; mode = freshMode; ranges = freshRanges; barred = 0; cycle = freshCycle; parts = freshParts;
-        powers = freshPowers; tally = freshTally; clock = freshClock; «over_t0» = never; settings = freshSettings;
-        «phase_cal» = freshPhaseCal; corrections = noCorrections; job = noJob; comparator = freshComparator; ring = emptyRing }
+      description = d;
+      calibration = c;
+      mode = freshMode;
+      ranges = freshRanges;
+      barred = 0;
+      cycle = freshCycle;
+      parts = freshParts;
+      powers = freshPowers;
+      tally = freshTally;
+      clock = freshClock;
+      «over_t0» = never;
+      settings = freshSettings;
+      «phase_cal» = freshPhaseCal;
+      corrections = noCorrections;
+      job = noJob;
+      comparator = freshComparator;
+      ring = emptyRing;
+    }

@@ -331,7 +331,11 @@ pub fn deadline(now: u64, settle: u64) -> u64
     ensures { λ r. ⌜ r ≡ deadline now settle ⌝ }
 {
     let left = 18446744073709551615 - now;
-    if settle < left { now + settle } else { 18446744073709551615 }
+    if settle < left {
+        now + settle
+    } else {
+        18446744073709551615
+    }
 }
 
 // One more, held at 255.

@@ -1,0 +1,4 @@
+pub mod Scales
+pub mod Readings
+pub mod Smoothed
+pub mod Take
