@@ -1,0 +1,4 @@
+pub mod Apply
+pub mod Change
+pub mod Autorange
+pub mod Cycle
