@@ -1,0 +1,31 @@
+-- Dropped or taken.
+use borrow.Author.Needs.{needs}
+use borrow.Author.Tests.{lt-ltb, le-ltb}
+use Rattle.paths.specs.Dc.{dcVPart}
+use Rattle.paths.proofs.dc.dc_v_part.Statement.{statement}
+use Rattle.paths.proofs.dc.dc_v_part.Tie as tie
+
+note-result-requires : tie.Need-note-result-requires
+note-result-requires c κs = search needs
+
+sub-left : tie.Need-sub-left
+sub-left c = search needs
+
+quiet-requires : tie.Need-quiet-requires
+quiet-requires c κs = search needs
+
+returns : tie.Need-returns
+unfolding dcVPart
+returns c = simp (c .quiet .ensures, c .before .before .before .note-result .ensures, lt-ltb _ _ (c .before .before .if1 .taken))
+
+dc-v-on-requires : tie.Need-dc-v-on-requires
+dc-v-on-requires c κs = search needs
+
+returns-2 : tie.Need-returns-2
+unfolding dcVPart
+returns-2 c = simp (c .dc-v-on .ensures, c .before .before .note-result .ensures, le-ltb _ _ (c .before .if1 .left))
+
+pub dc-v-part-spec : {M : Type 1} → statement M
+dc-v-part-spec =
+    tie.close
+    (tie.spec note-result-requires sub-left quiet-requires returns dc-v-on-requires returns-2)

@@ -1,0 +1,48 @@
+-- By R34, then by the mark.
+use borrow.Author.Needs.{needs}
+use borrow.Author.Tests.{eq-eqb, ne-eqb}
+use Rattle.paths.specs.MethodB.{bNext}
+use Rattle.paths.proofs.method_b.b_next.Statement.{statement}
+use Rattle.paths.proofs.method_b.b_next.Tie as tie
+
+b-autorange-requires : tie.Need-b-autorange-requires
+b-autorange-requires c κs = search needs
+
+advance-requires : tie.Need-advance-requires
+advance-requires c κs = search needs
+
+goes-on-requires : tie.Need-goes-on-requires
+goes-on-requires c κs = search needs
+
+returns : tie.Need-returns
+unfolding bNext
+returns c = simp (c .goes-on .ensures, c .before .before .before .advance .ensures, c .before .before .before .before .b-autorange .ensures, eq-eqb _ _ (c .before .if1 .taken))
+
+ranged-to-requires : tie.Need-ranged-to-requires
+ranged-to-requires c κs = search needs
+
+returns-2 : tie.Need-returns-2
+unfolding bNext
+returns-2 c = let if2 = simp (c .before .before .before .before .before .b-autorange .ensures) at (c .before .if2 .taken) in
+    simp (c .ranged-to .ensures, c .before .before .before .before .advance .ensures, c .before .before .before .before .before .b-autorange .ensures, if2, ne-eqb _ _ (c .before .before .if1 .left))
+
+b-on-requires : tie.Need-b-on-requires
+b-on-requires c κs = search needs
+
+returns-3 : tie.Need-returns-3
+unfolding bNext
+returns-3 c = let if2 = simp (c .before .before .before .before .before .b-autorange .ensures) at (c .before .if2 .left) in
+    simp (c .b-on .ensures, c .before .before .before .before .advance .ensures, c .before .before .before .before .before .b-autorange .ensures, if2, ne-eqb _ _ (c .before .before .if1 .left))
+
+pub b-next-spec : {M : Type 1} → statement M
+b-next-spec =
+    tie.close
+    (tie.spec
+    b-autorange-requires
+    advance-requires
+    goes-on-requires
+    returns
+    ranged-to-requires
+    returns-2
+    b-on-requires
+    returns-3)

@@ -1,0 +1,86 @@
+-- What a frame outside a job may change, and what it answers: rule 1 of docs/ARCHITECTURE.md. Nothing else of the meter is handed to it.
+use mathlib.Core.Bool.{Bool, true, false}
+use Prim.Native.Nat.{ℕ}
+use Rattle.state.specs.declared.Comparator.{Comparator}
+use Rattle.state.specs.declared.Cycle.{Cycle}
+use Rattle.state.specs.declared.Ring.{Ring}
+use Rattle.state.specs.declared.Stamp.{Stamp}
+use Rattle.state.specs.Fresh.{never}
+use Rattle.takes.specs.declared.take.Measured.{Measured}
+use Rattle.ranging.specs.declared.autorange.Ranging.{Ranging}
+use Rattle.ranging.specs.declared.autorange.Ranged.{Ranged}
+use Rattle.paths.specs.declared.measuring.Measuring.{Measuring}
+use Rattle.paths.specs.declared.measuring.Outcome.{Outcome}
+
+-- no mark, and nothing to account
+unfoldable pub quiet : Measuring → Outcome
+quiet m = record { measuring = m; mark = never; accounts = false }
+
+-- the source goes on to `pw_vals` and `pw_account`
+unfoldable pub goesOn : Measuring → Outcome
+goesOn m = record { measuring = m; mark = never; accounts = true }
+
+-- ---- one field replaced
+
+abbrev pub withSeen : Cycle → ℕ → Cycle
+withSeen c seen = record { phase = c .phase; skip = c .skip; «skip_y» = c .«skip_y»; taken = c .taken; stat = c .stat; seen = seen }
+
+abbrev pub withSkip : Cycle → ℕ → Cycle
+withSkip c skip = record { phase = c .phase; skip = skip; «skip_y» = c .«skip_y»; taken = c .taken; stat = c .stat; seen = c .seen }
+
+abbrev pub withSkipY : Cycle → ℕ → Cycle
+withSkipY c skipY = record { phase = c .phase; skip = c .skip; «skip_y» = skipY; taken = c .taken; stat = c .stat; seen = c .seen }
+
+abbrev pub withTaken : Cycle → ℕ → Cycle
+withTaken c taken = record { phase = c .phase; skip = c .skip; «skip_y» = c .«skip_y»; taken = taken; stat = c .stat; seen = c .seen }
+
+abbrev pub withCycle : Measuring → Cycle → Measuring
+withCycle m c =
+    record { ranges = m .ranges; barred = m .barred; cycle = c; parts = m .parts; «phase_cal» = m .«phase_cal»; comparator = m .comparator; ring = m .ring }
+
+abbrev pub withComparator : Measuring → Comparator → Measuring
+withComparator m k =
+    record { ranges = m .ranges; barred = m .barred; cycle = m .cycle; parts = m .parts; «phase_cal» = m .«phase_cal»; comparator = k; ring = m .ring }
+
+abbrev pub withRing : Measuring → Ring → Measuring
+withRing m r =
+    record { ranges = m .ranges; barred = m .barred; cycle = m .cycle; parts = m .parts; «phase_cal» = m .«phase_cal»; comparator = m .comparator; ring = r }
+
+-- ---- what the takes may change
+
+unfoldable pub measuredIn : Measuring → Measured
+measuredIn m = record { parts = m .parts; seen = m .cycle .seen; «phase_cal» = m .«phase_cal» }
+
+unfoldable pub withMeasured : Measuring → Measured → Measuring
+withMeasured m t =
+    record {
+      ranges = m .ranges;
+      barred = m .barred;
+      cycle = withSeen (m .cycle) (t .seen);
+      parts = t .parts;
+      «phase_cal» = t .«phase_cal»;
+      comparator = m .comparator;
+      ring = m .ring;
+    }
+
+-- ---- what an autorange may change
+
+unfoldable pub rangingIn : Measuring → Ranging
+rangingIn m = record { ranges = m .ranges; barred = m .barred; cycle = m .cycle; comparator = m .comparator }
+
+-- a range was applied: its mark, and nothing to account
+unfoldable pub rangedTo : Measuring → Ranged → Outcome
+rangedTo m r =
+    record {
+      measuring = record {
+        ranges = r .ranging .ranges;
+        barred = r .ranging .barred;
+        cycle = r .ranging .cycle;
+        parts = m .parts;
+        «phase_cal» = m .«phase_cal»;
+        comparator = r .ranging .comparator;
+        ring = m .ring;
+      };
+      mark = r .mark;
+      accounts = false;
+    }

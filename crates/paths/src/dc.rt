@@ -1,0 +1,113 @@
+// A frame in DC coupling (the source's `pw_poll_dc`): the voltage of RMS and LPF, then the current of
+// AD1. Document 01 takes AD1 from the same frame.
+ghost use mathlib.Core.Path.{_≡_};
+ghost use Rattle.paths.specs.Dc.{dcVOn, dcVPart, dcIOn, dcIPart, dcFrame};
+use crate::measuring::Measuring;
+use crate::measuring::Outcome;
+use crate::measuring::goes_on;
+use crate::measuring::measured_in;
+use crate::measuring::quiet;
+use crate::measuring::ranged_to;
+use crate::measuring::ranging_in;
+use crate::measuring::with_measured;
+use crate::ring::note_current;
+use crate::ring::note_result;
+use codes::Codes;
+use codes::holds_ad1;
+use codes::holds_rms_lpf;
+use ranging::autorange::autorange_i;
+use ranging::autorange::autorange_v;
+use state::Mode;
+use takes::scales::Instrument;
+use takes::take::dc_i_taken;
+use takes::take::dc_v_taken;
+
+// A voltage is taken; where its range changes, the frame ends there.
+fn dc_v_on(with: Instrument, mode: Mode, codes: Codes, now: u64, before: Measuring) -> Outcome
+    ensures { λ r. ⌜ r ≡ dcVOn with mode codes now before ⌝ }
+{
+    let measured = dc_v_taken(with, before.ranges.vr, codes, measured_in(before));
+    let after = with_measured(before, measured);
+    let ranged = autorange_v(with.description, mode, after.parts, ranging_in(after), now);
+    if ranged.mark.set {
+        return ranged_to(after, ranged);
+    }
+    quiet(after)
+}
+
+// The voltage's part of the frame: the ring's entry, then a dropped result or one taken.
+fn dc_v_part(with: Instrument, mode: Mode, codes: Codes, now: u64, before: Measuring) -> Outcome
+    ensures { λ r. ⌜ r ≡ dcVPart with mode codes now before ⌝ }
+{
+    let skip_y = before.cycle.skip_y;
+    let ring = note_result(before.ring, now, 3, skip_y > 0, codes);
+    let mut noted = before;
+    noted.ring = ring;
+    if skip_y > 0 {
+        let left = skip_y - 1;
+        noted.cycle.skip_y = left;
+        return quiet(noted);
+    }
+    dc_v_on(with, mode, codes, now, noted)
+}
+
+// A current is taken: the ring's entry, the take, and its autorange.
+fn dc_i_on(with: Instrument, mode: Mode, codes: Codes, now: u64, before: Measuring) -> Outcome
+    ensures { λ r. ⌜ r ≡ dcIOn with mode codes now before ⌝ }
+{
+    let ring = note_current(before.ring, codes.ad1);
+    let mut noted = before;
+    noted.ring = ring;
+    let measured = dc_i_taken(with, before.ranges.ik, codes, measured_in(before));
+    let after = with_measured(noted, measured);
+    let ranged = autorange_i(with.description, mode, after.parts, ranging_in(after), now);
+    if ranged.mark.set {
+        return ranged_to(after, ranged);
+    }
+    goes_on(after)
+}
+
+// The current's part of the frame. A dropped result leaves no entry in the ring.
+fn dc_i_part(
+    with: Instrument,
+    mode: Mode,
+    flags: u8,
+    codes: Codes,
+    now: u64,
+    before: Measuring,
+) -> Outcome
+    ensures { λ r. ⌜ r ≡ dcIPart with mode flags codes now before ⌝ }
+{
+    let skip = before.cycle.skip;
+    let mut dropped = before;
+    if holds_ad1(flags) {
+        if skip > 0 {
+            let left = skip - 1;
+            dropped.cycle.skip = left;
+            return quiet(dropped);
+        }
+        return dc_i_on(with, mode, codes, now, before);
+    }
+    quiet(before)
+}
+
+// The voltage where RMS and LPF are ready, and then, unless the V range changed, the current.
+pub fn dc_frame(
+    with: Instrument,
+    mode: Mode,
+    flags: u8,
+    codes: Codes,
+    now: u64,
+    before: Measuring,
+) -> Outcome
+    ensures { λ r. ⌜ r ≡ dcFrame with mode flags codes now before ⌝ }
+{
+    if holds_rms_lpf(flags) {
+        let v = dc_v_part(with, mode, codes, now, before);
+        if v.mark.set {
+            return v;
+        }
+        return dc_i_part(with, mode, flags, codes, now, v.measuring);
+    }
+    dc_i_part(with, mode, flags, codes, now, before)
+}

@@ -1,0 +1,116 @@
+// What a frame outside a job may change, and what it answers.
+ghost use mathlib.Core.Path.{_≡_};
+ghost use Rattle.paths.specs.Measuring.{quiet, goesOn, measuredIn, withMeasured, rangingIn, rangedTo};
+use ranging::autorange::Ranged;
+use ranging::autorange::Ranging;
+use state::Comparator;
+use state::Cycle;
+use state::Parts;
+use state::PhaseCal;
+use state::Ranges;
+use state::Ring;
+use state::Stamp;
+use takes::take::Measured;
+
+#[repr(C)]
+pub struct Measuring {
+    pub ranges: Ranges,
+    pub barred: u8,
+    pub cycle: Cycle,
+    pub parts: Parts,
+    pub phase_cal: PhaseCal,
+    pub comparator: Comparator,
+    pub ring: Ring,
+}
+
+// What stands after the frame, the mark to the host, and whether the frame goes on to its accounting.
+#[repr(C)]
+pub struct Outcome {
+    pub measuring: Measuring,
+    pub mark: Stamp,
+    pub accounts: bool,
+}
+
+// No mark, no accounting.
+pub fn quiet(measuring: Measuring) -> Outcome
+    ensures { λ r. ⌜ r ≡ quiet measuring ⌝ }
+{
+    Outcome {
+        measuring,
+        mark: Stamp { set: false, at: 0 },
+        accounts: false,
+    }
+}
+
+// No mark; the frame is accounted.
+pub fn goes_on(measuring: Measuring) -> Outcome
+    ensures { λ r. ⌜ r ≡ goesOn measuring ⌝ }
+{
+    Outcome {
+        measuring,
+        mark: Stamp { set: false, at: 0 },
+        accounts: true,
+    }
+}
+
+// What the takes may change.
+pub fn measured_in(measuring: Measuring) -> Measured
+    ensures { λ r. ⌜ r ≡ measuredIn measuring ⌝ }
+{
+    let parts = measuring.parts;
+    let phase_cal = measuring.phase_cal;
+    Measured {
+        parts,
+        seen: measuring.cycle.seen,
+        phase_cal,
+    }
+}
+
+pub fn with_measured(before: Measuring, measured: Measured) -> Measuring
+    ensures { λ r. ⌜ r ≡ withMeasured before measured ⌝ }
+{
+    let parts = measured.parts;
+    let phase_cal = measured.phase_cal;
+    let seen = measured.seen;
+    let mut after = before;
+    after.parts = parts;
+    after.phase_cal = phase_cal;
+    after.cycle.seen = seen;
+    after
+}
+
+// What an autorange may change.
+pub fn ranging_in(measuring: Measuring) -> Ranging
+    ensures { λ r. ⌜ r ≡ rangingIn measuring ⌝ }
+{
+    let ranges = measuring.ranges;
+    let cycle = measuring.cycle;
+    let comparator = measuring.comparator;
+    Ranging {
+        ranges,
+        barred: measuring.barred,
+        cycle,
+        comparator,
+    }
+}
+
+// A range was applied: its mark, and no accounting.
+pub fn ranged_to(before: Measuring, ranged: Ranged) -> Outcome
+    ensures { λ r. ⌜ r ≡ rangedTo before ranged ⌝ }
+{
+    let ranges = ranged.ranging.ranges;
+    let barred = ranged.ranging.barred;
+    let cycle = ranged.ranging.cycle;
+    let comparator = ranged.ranging.comparator;
+    let mark = ranged.mark;
+    let mut after = before;
+    after.ranges = ranges;
+    after.barred = barred;
+    after.cycle = cycle;
+    after.comparator = comparator;
+    Outcome {
+        measuring: after,
+        mark,
+        accounts: false,
+    }
+}

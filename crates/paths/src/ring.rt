@@ -1,0 +1,84 @@
+// The ring: the sixteen latest conversions, by `ring_k` modulo 16.
+ghost use mathlib.Core.Path.{_≡_};
+ghost use Rattle.paths.specs.Noted.{heldDt, nextNumber, noted, noteResult, noteCurrent};
+use codes::Codes;
+use state::Ring;
+use state::elapsed;
+
+// One conversion: which result it was, whether it was dropped, its codes, and the ms since the one
+// before.
+pub struct Raw {
+    pub stat: u8,
+    pub disc: bool,
+    pub rms: i64,
+    pub lpf: i32,
+    pub dt: u16,
+}
+
+// The ms since the last result, held to 65535.
+fn held_dt(now: u64, t_res: u64) -> u16
+    ensures { λ r. ⌜ r ≡ heldDt now «t_res» ⌝ }
+{
+    let dt = elapsed(now, t_res);
+    if dt < 65535 { dt as u16 } else { 65535 }
+}
+
+// The number after k; after the last one comes 0.
+fn next_number(k: u32) -> u32
+    ensures { λ r. ⌜ r ≡ nextNumber k ⌝ }
+{
+    if k < 4294967295 { k + 1 } else { 0 }
+}
+
+// The ring with a conversion in the oldest one's place.
+fn noted(before: Ring, raw: Raw) -> Ring
+    ensures { λ r. ⌜ r ≡ noted before raw ⌝ }
+{
+    let k = (before.ring_k % 16) as usize;
+    let next = next_number(before.ring_k);
+    let rms = raw.rms;
+    let lpf = raw.lpf;
+    let mut after = before;
+    after.stat[k] = raw.stat;
+    after.disc[k] = raw.disc;
+    after.rms[k] = rms;
+    after.lpf[k] = lpf;
+    after.dt[k] = raw.dt;
+    after.ring_k = next;
+    after
+}
+
+// An RMS and LPF result at the time `now`.
+pub fn note_result(before: Ring, now: u64, stat: u8, disc: bool, codes: Codes) -> Ring
+    ensures { λ r. ⌜ r ≡ noteResult before now stat disc codes ⌝ }
+{
+    let dt = held_dt(now, before.t_res);
+    let rms = codes.rms;
+    let lpf = codes.lpf;
+    let mut after = noted(
+        before,
+        Raw {
+            stat,
+            disc,
+            rms,
+            lpf,
+            dt,
+        },
+    );
+    after.t_res = now;
+    after
+}
+
+// An AD1 result of the DC row: it stands in the place of the LPF's code, and no time goes with it.
+pub fn note_current(before: Ring, ad1: i32) -> Ring
+    ensures { λ r. ⌜ r ≡ noteCurrent before ad1 ⌝ }
+{
+    let raw = Raw {
+        stat: 4,
+        disc: false,
+        rms: 0,
+        lpf: ad1,
+        dt: 0,
+    };
+    noted(before, raw)
+}
