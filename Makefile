@@ -1,6 +1,6 @@
 # make run       builds pwscript and runs an example script through it
 # make test      the merge gate, .ci/run
-# make compare   pwscript against the published Rust: SEED and LINES as one likes
+# make compare   pwscript and the frames against the published Rust: SEED and LINES as one likes
 # make bench     nanoseconds per call, and both programs over one script
 # make clean     removes all that was built
 #
@@ -18,6 +18,7 @@ LIBRARIES = target/staticlib
 PW = include/pw.h $(LIBRARIES)/libpw.a
 LEAVES = host/leaves.h $(LIBRARIES)/libleaves.a
 PWSCRIPT = host/pwscript.c host/words.c host/words.h
+FRAMES = tests/frames.c tests/transcript.c tests/transcript.h tests/fields.h tests/bits.h host/words.c host/words.h
 COMPILE = @mkdir -p $(@D) && echo "$(CC) $@" && $(CC) $(CFLAGS)
 INPUTS = $(filter %.c %.a,$^)
 
@@ -30,13 +31,16 @@ run: build/pwscript
 
 # All that the gate's host tests run.
 host: build/pwscript build/figure_lines build/test_pw build/test_leaves build/test_figures \
-	build/sanitized/pwscript build/sanitized/test_pw build/sanitized/test_leaves build/sanitized/test_figures
+	build/test_state build/frames build/frame_lines \
+	build/sanitized/pwscript build/sanitized/test_pw build/sanitized/test_leaves build/sanitized/test_figures \
+	build/sanitized/test_state build/sanitized/frames
 
 test:
 	bash .ci/run
 
-compare: build/pwscript build/figure_lines
+compare: build/pwscript build/figure_lines build/frames build/frame_lines
 	tests/compare.sh $(SEED) $(LINES)
+	tests/frames.sh $(SEED) $(LINES)
 
 bench: build/bench build/pwscript
 	host/bench.sh
@@ -67,6 +71,21 @@ build/test_figures: tests/test_figures.c tests/bits.h tests/energy.h tests/float
 
 build/sanitized/test_figures: tests/test_figures.c tests/bits.h tests/energy.h tests/floats.h $(PW) $(LEAVES)
 	$(COMPILE) $(SANITIZED) -o $@ $(INPUTS) -lm
+
+build/test_state: tests/test_state.c tests/fields.h tests/bits.h $(LEAVES)
+	$(COMPILE) $(PLAIN) -o $@ $(INPUTS) -lm
+
+build/sanitized/test_state: tests/test_state.c tests/fields.h tests/bits.h $(LEAVES)
+	$(COMPILE) $(SANITIZED) -o $@ $(INPUTS) -lm
+
+build/frames: $(FRAMES) $(LEAVES)
+	$(COMPILE) $(PLAIN) -o $@ $(INPUTS) -lm
+
+build/sanitized/frames: $(FRAMES) $(LEAVES)
+	$(COMPILE) $(SANITIZED) -o $@ $(INPUTS) -lm
+
+build/frame_lines: tests/frame_lines.c tests/bits.h
+	$(COMPILE) $(PLAIN) -o $@ $(INPUTS) -lm
 
 build/figure_lines: tests/figure_lines.c tests/bits.h tests/floats.h
 	$(COMPILE) $(PLAIN) -o $@ $(INPUTS) -lm

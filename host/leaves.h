@@ -1,9 +1,10 @@
 /* leaves.h: leaf functions of libleaves.a (`rt staticlib leaves`).
  *
- * They are exported so that they can be compared, function by function, with the published Rust (by
- * pwscript) and with the C compiler's arithmetic (by tests/test_leaves.c and tests/test_figures.c).
- * They are no part of the product's interface, pw.h. Each answers for every argument; float and double
- * mean IEEE 754's binary32 and binary64, and a NaN's sign and payload are not kept. */
+ * They are exported so that they can be compared with the published Rust, function by function (by
+ * pwscript) and call by call (by tests/frames.c), and with the C compiler's arithmetic (by
+ * tests/test_leaves.c and tests/test_figures.c). They are no part of the product's interface, pw.h.
+ * Each answers for every argument; float and double mean IEEE 754's binary32 and binary64, and a
+ * NaN's sign and payload are not kept. */
 #ifndef LEAVES_H
 #define LEAVES_H
 
@@ -178,5 +179,188 @@ struct leaf_accounted {
     int64_t whole;
 };
 struct leaf_accounted leaf_accounting_step(struct leaf_tally t, uint64_t dt, float p, float s, bool active);
+
+/* ---- the meter ---- */
+
+/* A time in ms where `set`, else none. */
+struct leaf_stamp {
+    bool set;
+    uint64_t at;
+};
+
+/* What the meter does: on, the alternating method, the coupling asked for (as of leaf_coup_of),
+ * DC coupling in force, and that the host is to re-apply. */
+struct leaf_mode {
+    bool on;
+    bool alt;
+    uint8_t coup;
+    bool dc;
+    bool cal_req;
+};
+
+/* The V range and the current range, and whether each is found by itself. */
+struct leaf_ranges {
+    uint8_t vr;
+    uint8_t ik;
+    bool v_auto;
+    bool i_auto;
+};
+
+/* The phase, the results still to drop (skip_y those of the DC row's V), the results taken in
+ * this phase of the alternating method, R34, and the parts measured since the last apply: 1
+ * power, 2 voltage, 4 current. */
+struct leaf_cycle {
+    uint8_t phase;
+    uint8_t skip;
+    uint8_t skip_y;
+    uint8_t taken;
+    uint8_t stat;
+    uint8_t seen;
+};
+
+/* The smoothed values: W, V and A by AC and DC part; vac_dc is the AC volts in DC coupling. */
+struct leaf_parts {
+    float p_ac;
+    float v_ac;
+    float v_dc;
+    float i_ac;
+    float i_dc;
+    float vac_dc;
+};
+
+/* The powers of the next interval. */
+struct leaf_powers {
+    float p_tot;
+    float s_last;
+};
+
+/* Whether energy is counted, the last accounted frame's time, and the last frame's. */
+struct leaf_clock {
+    bool run;
+    struct leaf_stamp t_last;
+    uint64_t t_poll;
+};
+
+/* What the order `settings` brings. */
+struct leaf_settings {
+    bool comp;
+    float r_path[3];
+    float i_cont;
+    uint16_t t_lim;
+    uint8_t main;
+};
+
+/* The phase calibration and what it has found. */
+struct leaf_phase_cal {
+    int8_t sph;
+    uint8_t cal;
+    uint8_t cal_n;
+    float cal_acc;
+    int8_t cal_s0;
+    float cal_pa;
+    uint8_t cal_res;
+};
+
+/* The stored zeros (zx and zd by current range) with their mark, and the stored gain of each V
+ * range, 0.0 where the factory's counts. */
+struct leaf_corrections {
+    int16_t zx[6];
+    int16_t zd[6];
+    int16_t zy;
+    bool zero_ok;
+    float vgain[4];
+};
+
+/* The running job (0 none), what it has measured, and the ranges and marks found at its start;
+ * `used` counts the ready frames that it has used. */
+struct leaf_job {
+    uint8_t job;
+    uint8_t job_step;
+    uint8_t job_n;
+    float job_a;
+    float job_b;
+    bool job_dc;
+    float job_raw[2];
+    float job_ref[2];
+    int16_t job_zx[6];
+    int16_t job_zd[6];
+    struct leaf_ranges job_save;
+    uint8_t job_res;
+    uint8_t job_vr;
+    uint8_t job_last;
+    uint8_t used;
+};
+
+/* The comparator's source and window, whether a frequency is to be had, and the V range that the
+ * window was chosen for. */
+struct leaf_comparator {
+    uint8_t r20;
+    uint8_t r21;
+    bool f_ok;
+    uint8_t cmp_vr;
+};
+
+/* The sixteen latest conversions, the one of number n at n modulo 16: which result it was,
+ * whether it was dropped, its codes, and the ms since the one before. ring_k is the next number,
+ * t_res the time of the last result of RMS and LPF. */
+enum { LEAF_RING = 16 };
+struct leaf_ring {
+    uint8_t stat[LEAF_RING];
+    bool disc[LEAF_RING];
+    int64_t rms[LEAF_RING];
+    int32_t lpf[LEAF_RING];
+    uint16_t dt[LEAF_RING];
+    uint32_t ring_k;
+    uint64_t t_res;
+};
+
+/* The whole meter. `barred` is 0 where nothing is barred, else the unit (1 mA, 2 uA) of a current
+ * range that tripped; over_t0 is since when the current is above its limit. It is plain data: a
+ * copy of it is the same meter. */
+struct leaf_pw {
+    struct leaf_description description;
+    struct leaf_calibration calibration;
+    struct leaf_mode mode;
+    struct leaf_ranges ranges;
+    uint8_t barred;
+    struct leaf_cycle cycle;
+    struct leaf_parts parts;
+    struct leaf_powers powers;
+    struct leaf_tally tally;
+    struct leaf_clock clock;
+    struct leaf_stamp over_t0;
+    struct leaf_settings settings;
+    struct leaf_phase_cal phase_cal;
+    struct leaf_corrections corrections;
+    struct leaf_job job;
+    struct leaf_comparator comparator;
+    struct leaf_ring ring;
+};
+
+/* A meter with this description and these words, just made: off, and all else as the source's
+ * Pw::new has it. Neither is refused here. */
+struct leaf_pw leaf_pw_new(struct leaf_description d, struct leaf_calibration c);
+
+/* The meter after a measuring step. `mark` is set where the host is to write the row, and then is
+ * the deadline: the call's time and the settling time, held to the end of 64 bits. `accounts`
+ * says whether the source goes on to its values and to the accounting step. */
+struct leaf_measured {
+    struct leaf_pw pw;
+    struct leaf_stamp mark;
+    bool accounts;
+};
+
+/* What one frame does to the meter outside a job, up to the accounting step, which is not in it:
+ * the DC path where `dc`, else the alternating one where `alt`, else method B. `now` is the
+ * frame's time, ad1, lpf and rms are its codes. It tests neither `on` nor the job. The
+ * description, the words, the mode, powers, tally, clock, over_t0, settings, corrections, job,
+ * and of the phase calibration all but cal_n and cal_acc come back as they were. */
+struct leaf_measured leaf_frame(struct leaf_pw pw, uint64_t now, uint8_t flags, int32_t ad1,
+                                int32_t lpf, int64_t rms);
+
+/* The source's pw_apply outside a job: the row of the ranges and the method is to be written
+ * anew, and the phases start again. Keep 2 keeps the voltage's part of `seen`, 4 the current's,
+ * any other number none. Only the cycle and the comparator change, and `accounts` is no. */
+struct leaf_measured leaf_apply(struct leaf_pw pw, uint8_t keep, uint64_t now);
 
 #endif

@@ -18,14 +18,19 @@ build_oracle() {
         || fail "the oracle does not build"
 }
 
+# plain_meter: a call that makes one.
+plain_meter() {
+    echo "meter 3f800000 3f800000 3f800000 3f800000 3f800000 3f800000 0 0 z73"
+}
+
 # served_lines SEED LINES: that many lines, from `pwgen funcs SEED`: those of served functions, and every
 # `meter` line between them, which counts as a line. The first line makes a plain meter, since the one
 # that pwgen starts with may be refused, and `f v_gain` asks for a meter.
 # It is asked for twice as many lines, since it draws other functions as well.
 served_lines() {
-    "$oracle_folder/pwgen" funcs "$1" $((2 * $2 + 1000)) | awk -v lines="$2" '
+    "$oracle_folder/pwgen" funcs "$1" $((2 * $2 + 1000)) | awk -v lines="$2" -v meter="$(plain_meter)" '
         function take(line) { if (n < lines) { print line; n++ } }
-        BEGIN { take("meter 3f800000 3f800000 3f800000 3f800000 3f800000 3f800000 0 0 z73") }
+        BEGIN { take(meter) }
         NR == FNR { served[$1]; next }
         $1 == "meter" || $1 == "f" && ($2 in served) { take($0) }' tests/served -
 }
@@ -68,4 +73,50 @@ same_answers() {
             return 1
         fi
     done
+}
+
+# frame_script SEED SIGNALS LIMITS: a plain meter, so many calls of physical signals, jobs and orders (pwgen
+# script), and so many of tests/frame_lines.c.
+frame_script() {
+    plain_meter
+    "$oracle_folder/pwgen" script "$1" "$2" 0 && build/frame_lines "$1" "$3"
+}
+
+# transcript SCRIPT: the calls of SCRIPT, each behind `> `, with the published Rust's answers, and of each dump
+# the words that are not as in the dump before (tests/transcript.h). A conversion of the ring is a word. The
+# script begins with a meter that is made, since there is no dump without one.
+transcript() {
+    questions "$1" | sed '/^meter /a dump' | "$oracle_folder/pworacle" --dump | awk -v calls="$1" '
+        function put(key, value) {
+            if (key in last && last[key] "" == value "") return
+            last[key] = value
+            words = words " " key "=" value
+        }
+        function put_dump() { if (words != "") print "D" words; words = "" }
+        function next_call() {
+            do { if ((getline call < calls) <= 0) return 0 } while (call == "" || call ~ /^#/)
+            return 1
+        }
+        /^[0-9] mark=/ {
+            put_dump()
+            if (!next_call()) { print "more answers than calls"; exit 1 }
+            print "> " call
+            print
+            next
+        }
+        /^D[0-7] / {
+            if (whole[$1] == $0) next
+            whole[$1] = $0
+            for (k = 2; k <= NF; k++) {
+                at = index($k, "=")
+                key = substr($k, 1, at - 1)
+                value = substr($k, at + 1)
+                if (key != "ring") { put(key, value); continue }
+                slots = split(value, slot, ",")
+                for (j = 1; j <= slots; j++) put("ring." (j - 1), slot[j])
+            }
+            next
+        }
+        /^\?/ { print }
+        END { put_dump(); if (next_call()) { print "more calls than answers"; exit 1 } }'
 }

@@ -1,6 +1,7 @@
 #!/bin/bash
-# tests/record.sh [SEED [LINES]]: writes the sample that replay.sh replays. All answers are those of
-# the published Rust (../shared/oracle); pwscript has no part in it.
+# tests/record.sh [SEED [LINES]]: writes the sample that replay.sh replays, and the one of frames that
+# replay_frames.sh does. All answers are those of the published Rust (../shared/oracle); neither pwscript nor
+# frames has a part in it.
 set -u -o pipefail
 cd "$(dirname "$0")/.." || exit 1
 . tests/answers.sh
@@ -28,4 +29,15 @@ origin="tests/record.sh $seed $lines: pwgen funcs, seed $seed, $lines lines of t
 { echo "# $origin"; echo "# answered by $source"; cat "$work/lines"; } > tests/recorded/functions.script
 record functions tests/recorded/functions.script "$origin"
 record limits tests/limits.script "tests/record.sh: tests/limits.script, $(questions tests/limits.script | wc -l) lines"
-echo "record: seed $seed, $lines lines, and tests/limits.script ($source)"
+
+# The frames: a seed by which each case of tests/frames.c is met, whatever SEED is.
+frames_seed=347 signals=700 limits=1700
+make --no-print-directory build/frame_lines || fail "frame_lines does not build"
+frame_script "$frames_seed" "$signals" "$limits" > "$work/script" || fail "there is no script of frames"
+transcript "$work/script" > "$work/transcript" || fail "the oracle did not answer all of the frames"
+{
+    echo "# tests/record.sh: pwgen script, seed $frames_seed, $signals calls, and frame_lines, seed $frames_seed, $limits calls"
+    echo "# answers of $source"
+    cat "$work/transcript"
+} > tests/recorded/frames.transcript
+echo "record: seed $seed, $lines lines, tests/limits.script, and $((signals + limits)) calls of frames ($source)"

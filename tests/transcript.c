@@ -1,0 +1,231 @@
+#define _POSIX_C_SOURCE 200809L
+#include "transcript.h"
+
+#include "fields.h"
+
+#include <stdlib.h>
+#include <string.h>
+
+/* The line that was read last, and how many were read. */
+static struct {
+    char *text;
+    size_t room;
+    size_t length;
+    size_t number;
+    bool again; /* it is to be read once more */
+} line;
+
+_Noreturn void stop_at(size_t number, const char *why)
+{
+    printf("line %zu: %s\n", number, why);
+    exit(1);
+}
+
+static bool next_line(FILE *in)
+{
+    if (line.again) {
+        line.again = false;
+        return true;
+    }
+    ssize_t length = getline(&line.text, &line.room, in);
+    if (length < 0) {
+        if (ferror(in) != 0)
+            stop_at(line.number + 1, "cannot be read");
+        return false;
+    }
+    line.length = (size_t)length;
+    if (length > 0 && line.text[length - 1] == '\n')
+        line.text[--line.length] = '\0';
+    line.number++;
+    return true;
+}
+
+/* ---- dumps ---- */
+
+/* Whether a whole number fits in so many bytes. */
+static bool fits(int64_t n, size_t bytes)
+{
+    int64_t end = INT64_C(1) << (8 * bytes - 1) % 63;
+    return bytes == 8 || (n >= -end && n < end);
+}
+
+static bool read_whole(struct word w, enum kind kind, uint64_t *value)
+{
+    size_t bytes = size_of(kind);
+    if (kind == U8 || kind == U16 || kind == U32 || kind == U64)
+        return read_u64(w, value) && (bytes == 8 || *value >> 8 * bytes == 0);
+    int64_t n;
+    if (!read_i64(w, &n) || !fits(n, bytes))
+        return false;
+    *value = (uint64_t)n;
+    return true;
+}
+
+/* One value of a field, as a dump spells it. A minus sign alone is none, which is stored as 0. */
+static bool read_value(struct word w, enum kind kind, uint64_t *value)
+{
+    bool none = word_is(w, "-"), yes;
+    float x;
+    *value = 0;
+    if (kind == STAMPED)
+        *value = none ? 0 : 1;
+    else if (kind == BOOL && read_bool(w, &yes))
+        *value = yes ? 1 : 0;
+    else if (kind == F32 && read_float(w, &x))
+        *value = bits32(x);
+    else
+        return kind != BOOL && kind != F32 && (none || read_whole(w, kind, value));
+    return true;
+}
+
+/* Up to the next of the two separators, which is taken off the rest as well. */
+static struct word cut(struct word *rest, const char *separators)
+{
+    size_t length = 0;
+    while (length < rest->length && strchr(separators, rest->at[length]) == NULL)
+        length++;
+    struct word head = {rest->at, length};
+    size_t gone = length < rest->length ? length + 1 : length;
+    *rest = (struct word){rest->at + gone, rest->length - gone};
+    return head;
+}
+
+/* The fields that some dump has given. */
+static bool given[FIELDS];
+
+/* Value number `number` of a key, counted from index `from`, in each field that it belongs to. */
+static bool store(struct leaf_pw *pw, struct word key, size_t from, size_t number, struct word text)
+{
+    bool stored = false;
+    for (size_t j = 0; j < FIELDS; j++) {
+        const struct field *f = &fields[j];
+        if (f->role == MADE || !word_is(key, f->key))
+            continue;
+        bool one = f->count == 1;
+        if (one ? number != f->first : number % f->step != f->first)
+            continue;
+        size_t k = one ? 0 : from + number / f->step;
+        uint64_t value;
+        if (k >= f->count || !read_value(text, f->kind, &value))
+            return false;
+        set_value(pw, f, k, value);
+        stored = given[j] = true;
+    }
+    return stored;
+}
+
+/* A word KEY=VALUE or KEY.N=VALUE. */
+static bool store_word(struct leaf_pw *pw, struct word w)
+{
+    struct word name = cut(&w, "=");
+    struct word key = cut(&name, ".");
+    uint64_t from = 0;
+    if (name.length > 0 && !read_u64(name, &from))
+        return false;
+    for (size_t number = 0; w.length > 0; number++)
+        if (from >= LEAF_RING || !store(pw, key, from, number, cut(&w, ",:")))
+            return false;
+    return true;
+}
+
+static void store_line(struct leaf_pw *pw)
+{
+    struct word rest = {line.text, line.length};
+    cut(&rest, " ");
+    while (rest.length > 0)
+        if (!store_word(pw, cut(&rest, " ")))
+            stop_at(line.number, "no dump of a meter");
+}
+
+/* ---- calls ---- */
+
+static bool read_answer(struct call *c)
+{
+    struct word w[4];
+    if (split((struct word){line.text, line.length}, w, 4) != 4)
+        return false;
+    for (size_t k = 1; k < 4; k++)
+        cut(&w[k], "=");
+    c->mark.set = !word_is(w[1], "-");
+    c->mark.at = 0;
+    return read_u8(w[0], &c->refusal) && (!c->mark.set || read_u64(w[1], &c->mark.at))
+           && read_bool(w[3], &c->reading);
+}
+
+/* The description and the words of a meter that was made. */
+static bool read_meter(struct call *c)
+{
+    struct leaf_description *d = &c->after.description;
+    struct calibration_words words;
+    if (c->count != 10 || !read_floats(c->words + 1, d->mv_div, 2)
+        || !read_floats(c->words + 3, d->shunt, 3) || !read_float(c->words[6], &d->over)
+        || !read_bool(c->words[7], &d->a_auto)
+        || !read_bool(c->words[8], &c->after.calibration.valid)
+        || !read_calibration_words(c->words[9], &words) || words.count != LEAF_WORDS)
+        return false;
+    memcpy(c->after.calibration.words, words.at, sizeof c->after.calibration.words);
+    return true;
+}
+
+static void check_given(size_t number)
+{
+    for (size_t j = 0; j < FIELDS; j++)
+        if (fields[j].role != MADE && !given[j])
+            stop_at(number, "a field was never dumped");
+}
+
+/* Whether the line is to be passed over: a comment, and what says nothing of the state. */
+static bool is_beside(void)
+{
+    char a = line.text[0], b = line.text[1];
+    return line.length == 0 || a == '#' || a == 'R'
+           || (a == 'D' && (b == '8' || b == '9' || (b == '1' && line.text[2] != ' ')));
+}
+
+/* The lines up to the next call. */
+static void read_rest(FILE *in, struct call *c)
+{
+    bool answered = false;
+    while (next_line(in)) {
+        if (line.text[0] == '>') {
+            line.again = true;
+            break;
+        }
+        if (is_beside())
+            continue;
+        if (line.text[0] == 'D')
+            store_line(&c->after);
+        else if (!answered && read_answer(c))
+            answered = true;
+        else
+            stop_at(line.number, "no answer");
+    }
+    if (!answered)
+        stop_at(c->line, "is not answered");
+}
+
+bool next_call(FILE *in, struct call *c)
+{
+    do {
+        if (!next_line(in))
+            return false;
+    } while (is_beside());
+    if (line.text[0] != '>')
+        stop_at(line.number, "no call");
+    free(c->text);
+    c->text = strdup(line.text + 1);
+    if (c->text == NULL)
+        stop_at(line.number, "no memory");
+    c->line = line.number;
+    c->count = split((struct word){c->text, strlen(c->text)}, c->words, CALL_WORDS);
+    c->before = c->after;
+    read_rest(in, c);
+    if (c->count == 0 || c->count > CALL_WORDS)
+        stop_at(c->line, "no call");
+    if (word_is(c->words[0], "meter") && c->refusal == 0) {
+        if (!read_meter(c))
+            stop_at(c->line, "no meter");
+        check_given(c->line);
+    }
+    return true;
+}

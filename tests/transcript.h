@@ -1,0 +1,37 @@
+/* transcript.h: a transcript of calls to the published Rust's meter.
+ *
+ * Each call stands behind `> `, as in a script. The answer follows, and lines that begin with `D`
+ * and have words KEY=VALUE of the dump after the call, at least those that are not as in the dump
+ * before. KEY.N=VALUE gives the values from index N on. Comments, and lines that say nothing of the
+ * state (of the dump D8 and above, and R), are passed over. */
+#ifndef TRANSCRIPT_H
+#define TRANSCRIPT_H
+
+#include "leaves.h"
+#include "words.h"
+
+#include <stdio.h>
+
+enum { CALL_WORDS = 10 };
+
+/* A call, its answer, and the meter before and after it. */
+struct call {
+    size_t line; /* the number of its line */
+    char *text;
+    struct word words[CALL_WORDS];
+    size_t count;
+    uint8_t refusal;
+    struct leaf_stamp mark;
+    bool reading;
+    struct leaf_pw before;
+    struct leaf_pw after;
+};
+
+/* The next call; false at the end. A line that is not understood ends the program with status 1,
+ * and so does a meter made before each field was dumped. `c` is all zeros before the first. */
+bool next_call(FILE *in, struct call *c);
+
+/* Ends the program with status 1, and says why. */
+_Noreturn void stop_at(size_t line, const char *why);
+
+#endif
