@@ -8,6 +8,16 @@ use Rattle.figures.specs.Acc.{addedNumber, addedAcc, addedWhole}
 use Rattle.figures.specs.declared.tally.Tally.{Tally}
 use Rattle.figures.specs.declared.tally.Accounted.{Accounted}
 use Rattle.figures.specs.Tally.{accountedNumber, accountedTally, accountedWhole}
+use mathlib.Core.Bool.{true, false, cond}
+use Prim.Native.Nat.{ℕ}
+use lib.Dec.{eqb}
+use Rattle.state.specs.declared.Pw.{Pw}
+use Rattle.ranging.specs.declared.apply.Keep.{Keep}
+use Rattle.ranging.specs.declared.apply.Keep.the-variants.{Nothing, Voltage, Current}
+use Rattle.ranging.specs.declared.apply.Applied.{Applied}
+use Rattle.paths.specs.declared.measuring.Outcome.{Outcome}
+use Rattle.paths.specs.Whole.{withMeasuring}
+use Rattle.leaves.specs.declared.measured.MeasuredPw.{MeasuredPw}
 use Rattle.leaves.specs.declared.figured.NumberedSum.{NumberedSum}
 use Rattle.leaves.specs.declared.figured.NumberedTally.{NumberedTally}
 use Rattle.leaves.specs.declared.tabled.IuIrPair.{IuIrPair}
@@ -26,3 +36,20 @@ numberedSum a answer = record { refusal = addedNumber answer; acc = addedAcc a a
 
 abbrev pub numberedTally : Tally → Accounted → NumberedTally
 numberedTally t answer = record { refusal = accountedNumber answer; tally = accountedTally t answer; whole = accountedWhole answer }
+
+-- the source's `keep`: 2 keeps the voltage's parts, 4 the current's, and any other number none
+unfoldable pub keepOf : ℕ → Keep
+keepOf keep = cond (eqb keep 2) Voltage (cond (eqb keep 4) Current Nothing)
+
+-- a meter after a frame, and after an apply, with the mark to the host
+abbrev pub measuredPw : Pw → Outcome → MeasuredPw
+measuredPw m o = record { pw = withMeasuring m (o .measuring); mark = o .mark; accounts = o .accounts }
+
+abbrev pub appliedPw : Pw → Applied → MeasuredPw
+appliedPw m a =
+    record {
+        pw = record {
+            description = m .description; calibration = m .calibration; mode = m .mode; ranges = m .ranges; barred = m .barred; cycle = a .cycle;
+            parts = m .parts; powers = m .powers; tally = m .tally; clock = m .clock; «over_t0» = m .«over_t0»; settings = m .settings;
+            «phase_cal» = m .«phase_cal»; corrections = m .corrections; job = m .job; comparator = a .comparator; ring = m .ring };
+        mark = record { set = true; at = a .deadline }; accounts = false }
