@@ -48,8 +48,25 @@ measuredPw m o = record { pw = withMeasuring m (o .measuring); mark = o .mark; a
 abbrev pub appliedPw : Pw → Applied → MeasuredPw
 appliedPw m a =
     record {
-        pw = record {
-            description = m .description; calibration = m .calibration; mode = m .mode; ranges = m .ranges; barred = m .barred; cycle = a .cycle;
-            parts = m .parts; powers = m .powers; tally = m .tally; clock = m .clock; «over_t0» = m .«over_t0»; settings = m .settings;
-            «phase_cal» = m .«phase_cal»; corrections = m .corrections; job = m .job; comparator = a .comparator; ring = m .ring };
-        mark = record { set = true; at = a .deadline }; accounts = false }
+      pw = record {
+        description = m .description;
+        calibration = m .calibration;
+        mode = m .mode;
+        ranges = m .ranges;
+        barred = m .barred;
+        cycle = a .cycle;
+        parts = m .parts;
+        powers = m .powers;
+        tally = m .tally;
+        clock = m .clock;
+        «over_t0» = m .«over_t0»;
+        settings = m .settings;
+        «phase_cal» = m .«phase_cal»;
+        corrections = m .corrections;
+        job = m .job;
+        comparator = a .comparator;
+        ring = m .ring;
+      };
+      mark = record { set = true; at = a .deadline };
+      accounts = false;
+    }

@@ -28,7 +28,14 @@ pub extern "C" fn leaf_pw_new(d: Description, c: Calibration) -> Pw
 }
 
 #[no_mangle]
-pub extern "C" fn leaf_frame(pw: Pw, now: u64, flags: u8, ad1: i32, lpf: i32, rms: i64) -> MeasuredPw
+pub extern "C" fn leaf_frame(
+    pw: Pw,
+    now: u64,
+    flags: u8,
+    ad1: i32,
+    lpf: i32,
+    rms: i64,
+) -> MeasuredPw
     ensures { λ r. ⌜ r ≡ measuredPw pw (frame (instrumentIn pw) (pw .mode) flags (record { ad1 = ad1; lpf = lpf; rms = rms }) now (measuringIn pw)) ⌝ }
 {
     let codes = Codes { ad1, lpf, rms };

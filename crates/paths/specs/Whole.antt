@@ -9,13 +9,34 @@ instrumentIn m = record { description = m .description; calibration = m .calibra
 unfoldable pub measuringIn : Pw → Measuring
 measuringIn m =
     record {
-        ranges = m .ranges; barred = m .barred; cycle = m .cycle; parts = m .parts; «phase_cal» = m .«phase_cal»; comparator = m .comparator;
-        ring = m .ring }
+      ranges = m .ranges;
+      barred = m .barred;
+      cycle = m .cycle;
+      parts = m .parts;
+      «phase_cal» = m .«phase_cal»;
+      comparator = m .comparator;
+      ring = m .ring;
+    }
 
 -- all else stays: description and words, mode, powers, tally, clock, limit, settings, corrections and job
 unfoldable pub withMeasuring : Pw → Measuring → Pw
 withMeasuring m x =
     record {
-        description = m .description; calibration = m .calibration; mode = m .mode; ranges = x .ranges; barred = x .barred; cycle = x .cycle;
-        parts = x .parts; powers = m .powers; tally = m .tally; clock = m .clock; «over_t0» = m .«over_t0»; settings = m .settings;
-        «phase_cal» = x .«phase_cal»; corrections = m .corrections; job = m .job; comparator = x .comparator; ring = x .ring }
+      description = m .description;
+      calibration = m .calibration;
+      mode = m .mode;
+      ranges = x .ranges;
+      barred = x .barred;
+      cycle = x .cycle;
+      parts = x .parts;
+      powers = m .powers;
+      tally = m .tally;
+      clock = m .clock;
+      «over_t0» = m .«over_t0»;
+      settings = m .settings;
+      «phase_cal» = x .«phase_cal»;
+      corrections = m .corrections;
+      job = m .job;
+      comparator = x .comparator;
+      ring = x .ring;
+    }

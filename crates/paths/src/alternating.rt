@@ -78,7 +78,13 @@ fn alt_next(with: Instrument, mode: Mode, now: u64, before: Measuring) -> Outcom
 }
 
 // The ring's entry; then a dropped result, one turned down, or one taken.
-pub fn alt_frame(with: Instrument, mode: Mode, codes: Codes, now: u64, before: Measuring) -> Outcome
+pub(crate) fn alt_frame(
+    with: Instrument,
+    mode: Mode,
+    codes: Codes,
+    now: u64,
+    before: Measuring,
+) -> Outcome
     ensures { λ r. ⌜ r ≡ altFrame with mode codes now before ⌝ }
 {
     let phase = before.cycle.phase;

@@ -61,7 +61,7 @@ fn chosen(window: Window, op: f32, before: Comparator) -> Comparator
 }
 
 // Once voltage and current are measured.
-pub fn cmp_select(
+pub(crate) fn cmp_select(
     with: Instrument,
     ranges: Ranges,
     seen: u8,

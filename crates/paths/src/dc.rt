@@ -92,7 +92,7 @@ fn dc_i_part(
 }
 
 // The voltage where RMS and LPF are ready, and then, unless the V range changed, the current.
-pub fn dc_frame(
+pub(crate) fn dc_frame(
     with: Instrument,
     mode: Mode,
     flags: u8,

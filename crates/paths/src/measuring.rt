@@ -32,7 +32,7 @@ pub struct Outcome {
 }
 
 // No mark, no accounting.
-pub fn quiet(measuring: Measuring) -> Outcome
+pub(crate) fn quiet(measuring: Measuring) -> Outcome
     ensures { λ r. ⌜ r ≡ quiet measuring ⌝ }
 {
     Outcome {
@@ -43,7 +43,7 @@ pub fn quiet(measuring: Measuring) -> Outcome
 }
 
 // No mark; the frame is accounted.
-pub fn goes_on(measuring: Measuring) -> Outcome
+pub(crate) fn goes_on(measuring: Measuring) -> Outcome
     ensures { λ r. ⌜ r ≡ goesOn measuring ⌝ }
 {
     Outcome {
@@ -54,7 +54,7 @@ pub fn goes_on(measuring: Measuring) -> Outcome
 }
 
 // What the takes may change.
-pub fn measured_in(measuring: Measuring) -> Measured
+pub(crate) fn measured_in(measuring: Measuring) -> Measured
     ensures { λ r. ⌜ r ≡ measuredIn measuring ⌝ }
 {
     let parts = measuring.parts;
@@ -66,7 +66,7 @@ pub fn measured_in(measuring: Measuring) -> Measured
     }
 }
 
-pub fn with_measured(before: Measuring, measured: Measured) -> Measuring
+pub(crate) fn with_measured(before: Measuring, measured: Measured) -> Measuring
     ensures { λ r. ⌜ r ≡ withMeasured before measured ⌝ }
 {
     let parts = measured.parts;
@@ -80,7 +80,7 @@ pub fn with_measured(before: Measuring, measured: Measured) -> Measuring
 }
 
 // What an autorange may change.
-pub fn ranging_in(measuring: Measuring) -> Ranging
+pub(crate) fn ranging_in(measuring: Measuring) -> Ranging
     ensures { λ r. ⌜ r ≡ rangingIn measuring ⌝ }
 {
     let ranges = measuring.ranges;
@@ -95,7 +95,7 @@ pub fn ranging_in(measuring: Measuring) -> Ranging
 }
 
 // A range was applied: its mark, and no accounting.
-pub fn ranged_to(before: Measuring, ranged: Ranged) -> Outcome
+pub(crate) fn ranged_to(before: Measuring, ranged: Ranged) -> Outcome
     ensures { λ r. ⌜ r ≡ rangedTo before ranged ⌝ }
 {
     let ranges = ranged.ranging.ranges;

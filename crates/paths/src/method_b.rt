@@ -72,7 +72,13 @@ fn b_next(with: Instrument, mode: Mode, now: u64, before: Measuring) -> Outcome
 }
 
 // The ring's entry; then a dropped result, one turned down, or one taken.
-pub fn b_frame(with: Instrument, mode: Mode, codes: Codes, now: u64, before: Measuring) -> Outcome
+pub(crate) fn b_frame(
+    with: Instrument,
+    mode: Mode,
+    codes: Codes,
+    now: u64,
+    before: Measuring,
+) -> Outcome
     ensures { λ r. ⌜ r ≡ bFrame with mode codes now before ⌝ }
 {
     let stat = before.cycle.stat;

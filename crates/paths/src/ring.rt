@@ -49,7 +49,7 @@ fn noted(before: Ring, raw: Raw) -> Ring
 }
 
 // An RMS and LPF result at the time `now`.
-pub fn note_result(before: Ring, now: u64, stat: u8, disc: bool, codes: Codes) -> Ring
+pub(crate) fn note_result(before: Ring, now: u64, stat: u8, disc: bool, codes: Codes) -> Ring
     ensures { λ r. ⌜ r ≡ noteResult before now stat disc codes ⌝ }
 {
     let dt = held_dt(now, before.t_res);
@@ -70,7 +70,7 @@ pub fn note_result(before: Ring, now: u64, stat: u8, disc: bool, codes: Codes) -
 }
 
 // An AD1 result of the DC row: it stands in the place of the LPF's code, and no time goes with it.
-pub fn note_current(before: Ring, ad1: i32) -> Ring
+pub(crate) fn note_current(before: Ring, ad1: i32) -> Ring
     ensures { λ r. ⌜ r ≡ noteCurrent before ad1 ⌝ }
 {
     let raw = Raw {

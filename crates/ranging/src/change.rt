@@ -34,7 +34,7 @@ fn step(over: f32, limit: f32, m: f32, k: u8, least: u8, most: u8) -> Change
 }
 
 // The V channel's, after a V result.
-pub fn v_change(description: Description, ranges: Ranges, parts: Parts) -> Change
+pub(crate) fn v_change(description: Description, ranges: Ranges, parts: Parts) -> Change
     ensures { λ r. ⌜ r ≡ vChange description ranges parts ⌝ }
 {
     let m = numbers::hypot(parts.v_ac, parts.v_dc);
@@ -72,7 +72,7 @@ fn is_over(over: f32, ik: u8, parts: Parts) -> bool
 }
 
 // Whether a current range that was set by hand trips.
-pub fn trips(description: Description, ranges: Ranges, parts: Parts) -> bool
+pub(crate) fn trips(description: Description, ranges: Ranges, parts: Parts) -> bool
     ensures { λ r. ⌜ r ≡ trips description ranges parts ⌝ }
 {
     let u = iu_ir(ranges.ik);
@@ -84,7 +84,7 @@ pub fn trips(description: Description, ranges: Ranges, parts: Parts) -> bool
 }
 
 // The unit barred after a trip on current range ik: the coarser of the two.
-pub fn barred_after(barred: u8, ik: u8) -> u8
+pub(crate) fn barred_after(barred: u8, ik: u8) -> u8
     ensures { λ r. ⌜ r ≡ barredAfter barred ik ⌝ }
 {
     let u = iu_ir(ik);
@@ -120,7 +120,7 @@ fn least_ik(a_auto: bool, barred: u8) -> u8
 
 // The current channel's, after a current result: from the mA and uA shunts up in one hop to the A
 // shunt.
-pub fn i_change(description: Description, ranges: Ranges, barred: u8, parts: Parts) -> Change
+pub(crate) fn i_change(description: Description, ranges: Ranges, barred: u8, parts: Parts) -> Change
     ensures { λ r. ⌜ r ≡ iChange description ranges barred parts ⌝ }
 {
     let u = iu_ir(ranges.ik);

@@ -34,7 +34,7 @@ fn smoothed_power(later: bool, ranges: Ranges, x: f32, y: f32) -> f32
 }
 
 // After XY: the AC power, and the DC current.
-pub fn xy_parts(ranges: Ranges, seen: u8, p: f32, i_dc: f32, parts: Parts) -> Parts
+pub(crate) fn xy_parts(ranges: Ranges, seen: u8, p: f32, i_dc: f32, parts: Parts) -> Parts
     ensures { λ r. ⌜ r ≡ xyParts ranges seen p «i_dc» parts ⌝ }
 {
     let power = smoothed_power(has_seen(seen, Part::Power), ranges, p, parts.p_ac);
@@ -47,7 +47,7 @@ pub fn xy_parts(ranges: Ranges, seen: u8, p: f32, i_dc: f32, parts: Parts) -> Pa
 }
 
 // After XX or the alternating method's current: both parts of the current.
-pub fn i_parts(ik: u8, seen: u8, i_ac: f32, i_dc: f32, parts: Parts) -> Parts
+pub(crate) fn i_parts(ik: u8, seen: u8, i_ac: f32, i_dc: f32, parts: Parts) -> Parts
     ensures { λ r. ⌜ r ≡ iParts ik seen «i_ac» «i_dc» parts ⌝ }
 {
     let later = has_seen(seen, Part::Current);
@@ -61,7 +61,7 @@ pub fn i_parts(ik: u8, seen: u8, i_ac: f32, i_dc: f32, parts: Parts) -> Parts
 }
 
 // After YY: both parts of the voltage.
-pub fn v_parts(vr: u8, seen: u8, v_ac: f32, v_dc: f32, parts: Parts) -> Parts
+pub(crate) fn v_parts(vr: u8, seen: u8, v_ac: f32, v_dc: f32, parts: Parts) -> Parts
     ensures { λ r. ⌜ r ≡ vParts vr seen «v_ac» «v_dc» parts ⌝ }
 {
     let later = has_seen(seen, Part::Voltage);
@@ -75,7 +75,7 @@ pub fn v_parts(vr: u8, seen: u8, v_ac: f32, v_dc: f32, parts: Parts) -> Parts
 }
 
 // After the alternating method's voltage, which has no DC part.
-pub fn alt_v_parts(vr: u8, seen: u8, v_ac: f32, parts: Parts) -> Parts
+pub(crate) fn alt_v_parts(vr: u8, seen: u8, v_ac: f32, parts: Parts) -> Parts
     ensures { λ r. ⌜ r ≡ altVParts vr seen «v_ac» parts ⌝ }
 {
     let later = has_seen(seen, Part::Voltage);
@@ -87,7 +87,7 @@ pub fn alt_v_parts(vr: u8, seen: u8, v_ac: f32, parts: Parts) -> Parts
 }
 
 // After the DC row's voltage. Its AC volts stand apart.
-pub fn dc_v_parts(vr: u8, seen: u8, v_dc: f32, vac_dc: f32, parts: Parts) -> Parts
+pub(crate) fn dc_v_parts(vr: u8, seen: u8, v_dc: f32, vac_dc: f32, parts: Parts) -> Parts
     ensures { λ r. ⌜ r ≡ dcVParts vr seen «v_dc» «vac_dc» parts ⌝ }
 {
     let later = has_seen(seen, Part::Voltage);
@@ -102,7 +102,7 @@ pub fn dc_v_parts(vr: u8, seen: u8, v_dc: f32, vac_dc: f32, parts: Parts) -> Par
 }
 
 // After the DC row's current, which has no AC part and gives no AC power.
-pub fn dc_i_parts(ik: u8, seen: u8, i_dc: f32, parts: Parts) -> Parts
+pub(crate) fn dc_i_parts(ik: u8, seen: u8, i_dc: f32, parts: Parts) -> Parts
     ensures { λ r. ⌜ r ≡ dcIParts ik seen «i_dc» parts ⌝ }
 {
     let later = has_seen(seen, Part::Current);

@@ -27,21 +27,21 @@ use tables::ranges::cal_index;
 use tables::ranges::iu_ir;
 
 // AC volts of the RMS root, at this gain.
-pub fn ac_volts(root: f32, vr: u8, gain: f32) -> f32
+pub(crate) fn ac_volts(root: f32, vr: u8, gain: f32) -> f32
     ensures { λ r. ⌜ r ≡ acVolts root vr gain ⌝ }
 {
     root * v_scale(vr, gain)
 }
 
 // DC volts of the LPF code, at this zero and gain.
-pub fn dc_volts(lpf: i32, zero: i16, vr: u8, gain: f32) -> f32
+pub(crate) fn dc_volts(lpf: i32, zero: i16, vr: u8, gain: f32) -> f32
     ensures { λ r. ⌜ r ≡ dcVolts lpf zero vr gain ⌝ }
 {
     code_less(lpf, zero) * v_scale(vr, gain)
 }
 
 // Watts of the RMS code of X * Y.
-pub fn power(with: Instrument, ranges: Ranges, rms: i64) -> f32
+pub(crate) fn power(with: Instrument, ranges: Ranges, rms: i64) -> f32
     ensures { λ r. ⌜ r ≡ power with ranges rms ⌝ }
 {
     let description = with.description;
@@ -53,14 +53,14 @@ pub fn power(with: Instrument, ranges: Ranges, rms: i64) -> f32
 }
 
 // AC amperes of the RMS root.
-pub fn ac_amps(description: Description, calibration: Calibration, ik: u8, root: f32) -> f32
+pub(crate) fn ac_amps(description: Description, calibration: Calibration, ik: u8, root: f32) -> f32
     ensures { λ r. ⌜ r ≡ acAmps description calibration ik root ⌝ }
 {
     root * i_scale(description, ik) * g_i(calibration, ik)
 }
 
 // DC amperes of the LPF code.
-pub fn dc_amps(with: Instrument, ik: u8, lpf: i32) -> f32
+pub(crate) fn dc_amps(with: Instrument, ik: u8, lpf: i32) -> f32
     ensures { λ r. ⌜ r ≡ dcAmps with ik lpf ⌝ }
 {
     let description = with.description;
@@ -71,7 +71,7 @@ pub fn dc_amps(with: Instrument, ik: u8, lpf: i32) -> f32
 }
 
 // AC volts of the RMS root in the alternating method.
-pub fn alt_volts(calibration: Calibration, vr: u8, root: f32) -> f32
+pub(crate) fn alt_volts(calibration: Calibration, vr: u8, root: f32) -> f32
     ensures { λ r. ⌜ r ≡ altVolts calibration vr root ⌝ }
 {
     let k = at_most(3, vr) as u32;
@@ -82,7 +82,7 @@ pub fn alt_volts(calibration: Calibration, vr: u8, root: f32) -> f32
 }
 
 // AC amperes of the RMS root in the alternating method.
-pub fn alt_amps(description: Description, calibration: Calibration, ik: u8, root: f32) -> f32
+pub(crate) fn alt_amps(description: Description, calibration: Calibration, ik: u8, root: f32) -> f32
     ensures { λ r. ⌜ r ≡ altAmps description calibration ik root ⌝ }
 {
     let ci = cal_index(ik);
@@ -95,7 +95,12 @@ pub fn alt_amps(description: Description, calibration: Calibration, ik: u8, root
 }
 
 // DC amperes of the LPF code in the alternating method: no zero is taken off.
-pub fn alt_dc_amps(description: Description, calibration: Calibration, ik: u8, lpf: i32) -> f32
+pub(crate) fn alt_dc_amps(
+    description: Description,
+    calibration: Calibration,
+    ik: u8,
+    lpf: i32,
+) -> f32
     ensures { λ r. ⌜ r ≡ altDcAmps description calibration ik lpf ⌝ }
 {
     let ci = cal_index(ik);
@@ -117,7 +122,7 @@ fn ad1_offset(calibration: Calibration, zero_ok: bool, ik: u8) -> f32
 }
 
 // DC amperes of the AD1 code. Here the description's `SHUNT` counts.
-pub fn ad1_amps(with: Instrument, ik: u8, ad1: i32) -> f32
+pub(crate) fn ad1_amps(with: Instrument, ik: u8, ad1: i32) -> f32
     ensures { λ r. ⌜ r ≡ ad1Amps with ik ad1 ⌝ }
 {
     let description = with.description;

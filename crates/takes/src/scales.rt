@@ -24,7 +24,7 @@ pub struct Instrument {
 }
 
 // The amperes of a unit: A, mA, uA.
-pub fn us(iu: u8) -> f32
+pub(crate) fn us(iu: u8) -> f32
     ensures { λ r. ⌜ r ≡ us iu ⌝ }
 {
     match iu {
@@ -44,7 +44,7 @@ pub fn mv_div(description: Description, ik: u8) -> f32
 }
 
 // The description's `SHUNT` of a current range, by its unit. It is not `SHUNT_OHM`.
-pub fn shunt(description: Description, ik: u8) -> f32
+pub(crate) fn shunt(description: Description, ik: u8) -> f32
     ensures { λ r. ⌜ r ≡ shunt description ik ⌝ }
 {
     let shunts = description.shunt;
@@ -53,7 +53,7 @@ pub fn shunt(description: Description, ik: u8) -> f32
 }
 
 // Amperes of one code of the RMS root or the LPF.
-pub fn i_scale(description: Description, ik: u8) -> f32
+pub(crate) fn i_scale(description: Description, ik: u8) -> f32
     ensures { λ r. ⌜ r ≡ iScale description ik ⌝ }
 {
     let u = iu_ir(ik);
@@ -61,7 +61,7 @@ pub fn i_scale(description: Description, ik: u8) -> f32
 }
 
 // Volts of one code of the RMS root or the LPF, at this gain.
-pub fn v_scale(vr: u8, gain: f32) -> f32
+pub(crate) fn v_scale(vr: u8, gain: f32) -> f32
     ensures { λ r. ⌜ r ≡ vScale vr gain ⌝ }
 {
     CODE * kv(vr) * gain
@@ -77,7 +77,7 @@ pub fn gain(with: Instrument, vr: u8) -> f32
 }
 
 // The factor of the RMS root's amperes.
-pub fn g_i(calibration: Calibration, ik: u8) -> f32
+pub(crate) fn g_i(calibration: Calibration, ik: u8) -> f32
     ensures { λ r. ⌜ r ≡ gI calibration ik ⌝ }
 {
     let ci = cal_index(ik);
@@ -85,7 +85,7 @@ pub fn g_i(calibration: Calibration, ik: u8) -> f32
 }
 
 // The factor of the LPF's amperes: its own word, but the RMS root's where that is just 1.0.
-pub fn g_il(calibration: Calibration, ik: u8) -> f32
+pub(crate) fn g_il(calibration: Calibration, ik: u8) -> f32
     ensures { λ r. ⌜ r ≡ gIl calibration ik ⌝ }
 {
     let ci = cal_index(ik);
@@ -97,7 +97,7 @@ pub fn g_il(calibration: Calibration, ik: u8) -> f32
 }
 
 // The jump window of a current range's smoothing, in amperes.
-pub fn i_win(ik: u8) -> f32
+pub(crate) fn i_win(ik: u8) -> f32
     ensures { λ r. ⌜ r ≡ iWin ik ⌝ }
 {
     let ci = cal_index(ik);
@@ -106,7 +106,7 @@ pub fn i_win(ik: u8) -> f32
 }
 
 // The zero of the LPF's current in a current range, 0 while none is stored.
-pub fn zero_x(corrections: Corrections, ik: u8) -> i16
+pub(crate) fn zero_x(corrections: Corrections, ik: u8) -> i16
     ensures { λ r. ⌜ r ≡ zeroX corrections ik ⌝ }
 {
     let zx = corrections.zx;
@@ -115,7 +115,7 @@ pub fn zero_x(corrections: Corrections, ik: u8) -> i16
 }
 
 // The zero of AD1 in a current range, 0 while none is stored.
-pub fn zero_d(corrections: Corrections, ik: u8) -> i16
+pub(crate) fn zero_d(corrections: Corrections, ik: u8) -> i16
     ensures { λ r. ⌜ r ≡ zeroD corrections ik ⌝ }
 {
     let zd = corrections.zd;
@@ -124,7 +124,7 @@ pub fn zero_d(corrections: Corrections, ik: u8) -> i16
 }
 
 // The zero of the LPF's voltage, 0 while none is stored.
-pub fn zero_y(corrections: Corrections) -> i16
+pub(crate) fn zero_y(corrections: Corrections) -> i16
     ensures { λ r. ⌜ r ≡ zeroY corrections ⌝ }
 {
     if corrections.zero_ok {
@@ -135,14 +135,14 @@ pub fn zero_y(corrections: Corrections) -> i16
 }
 
 // A code less its zero, as a float.
-pub fn code_less(code: i32, zero: i16) -> f32
+pub(crate) fn code_less(code: i32, zero: i16) -> f32
     ensures { λ r. ⌜ r ≡ codeLess code zero ⌝ }
 {
     numbers::i64_to_f32((code as i64) - (zero as i64))
 }
 
 // The root of the RMS code; one below zero counts as zero.
-pub fn rms_root(rms: i64) -> f32
+pub(crate) fn rms_root(rms: i64) -> f32
     ensures { λ r. ⌜ r ≡ rmsRoot rms ⌝ }
 {
     if rms < 0 {
