@@ -1,5 +1,5 @@
 -- A frame in DC coupling: `pw_poll_dc` of the source. Document 01: "The DC path takes AD1 from the same frame, where the source reads the chip again."
-use mathlib.Core.Bool.{Bool, cond}
+use mathlib.Core.Bool.{cond}
 use Prim.Native.Nat.{ℕ, _-_}
 use lib.Dec.{ltb}
 use Rattle.codes.specs.declared.Codes.{Codes}

@@ -1,10 +1,9 @@
 -- What a frame outside a job may change, and what it answers: rule 1 of docs/ARCHITECTURE.md. Nothing else of the meter is handed to it.
-use mathlib.Core.Bool.{Bool, true, false}
+use mathlib.Core.Bool.{true, false}
 use Prim.Native.Nat.{ℕ}
 use Rattle.state.specs.declared.Comparator.{Comparator}
 use Rattle.state.specs.declared.Cycle.{Cycle}
 use Rattle.state.specs.declared.Ring.{Ring}
-use Rattle.state.specs.declared.Stamp.{Stamp}
 use Rattle.state.specs.Fresh.{never}
 use Rattle.takes.specs.declared.take.Measured.{Measured}
 use Rattle.ranging.specs.declared.autorange.Ranging.{Ranging}

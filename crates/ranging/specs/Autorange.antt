@@ -5,7 +5,6 @@ use Rattle.tables.specs.declared.description.Description.{Description}
 use Rattle.state.specs.declared.Mode.{Mode}
 use Rattle.state.specs.declared.Ranges.{Ranges}
 use Rattle.state.specs.declared.Parts.{Parts}
-use Rattle.state.specs.declared.Stamp.{Stamp}
 use Rattle.state.specs.Fresh.{never}
 use Rattle.ranging.specs.declared.apply.Keep.the-variants.{Voltage, Current}
 use Rattle.ranging.specs.declared.apply.Applied.{Applied}

@@ -1,5 +1,5 @@
 -- `pw_autorange` of the source: which range is asked for. And `overload_trips` of sentinel.rs with `barred`, all that document 01 keeps of the overload.
-use mathlib.Core.Bool.{Bool, true, false, not, cond, _&&_, _||_}
+use mathlib.Core.Bool.{Bool, true, not, cond, _&&_, _||_}
 use Prim.Native.Nat.{ℕ, _+_, _-_, _*_}
 use lib.Dec.{ltb, leb, eqb}
 use lib.Ieee.{Float, nan, binary32, lt, ofBits}

@@ -1,5 +1,5 @@
 -- The way to the next phase: the ends of the two branches of `poll_power` in the source.
-use mathlib.Core.Bool.{Bool, cond}
+use mathlib.Core.Bool.{cond}
 use Prim.Native.Nat.{ℕ, _+_, _-_, _%_}
 use lib.Dec.{eqb}
 use Rattle.tables.specs.Constants.{cycleAt, discDefault, altVSkip, altVSettleMs, settleMs}

@@ -1,10 +1,9 @@
 -- The bits of `seen`: none is zero, and one that is not set can be added within eight bits.
-use mathlib.Core.Path.{_≡_, sym, subst}
-use mathlib.Core.Bool.{Bool, false}
+use mathlib.Core.Path.{_≡_}
+use mathlib.Core.Bool.{false}
 use Prim.Native.Nat.{ℕ, _+_, _/_, _%_, _<_}
 use native.Mathlib.Omega.{arith}
 use borrow.Author.Tests.{eqb-false}
-use lib.Dec.{eqb}
 use Rattle.state.specs.declared.Part.{Part}
 use Rattle.state.specs.declared.Part.the-variants.{Power, Voltage, Current}
 use Rattle.state.specs.Seen.{bitOf, hasSeen}

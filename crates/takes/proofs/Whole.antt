@@ -1,7 +1,7 @@
 -- A code of 32 bits less a zero of 16 fits 64 bits, a number not below zero is itself, and a size above 2^36 is one on either side; of the integers, and of what the machine reads back from their bits.
 use mathlib.Core.Path.{_≡_, refl, sym, ap, subst, _∙_}
 use mathlib.Core.Bool.{Bool, true, false, true≢false, false≢true}
-use Prim.Native.Nat.{ℕ, zero, suc, _<_, _≤_, _^_}
+use Prim.Native.Nat.{ℕ, zero, suc, _^_}
 use native.Mathlib.Omega.{arith}
 use borrow.Author.Tests.{lt-ltb, le-ltb, ltb-true, ltb-false}
 use lib.IntN.{ℤ, pos, negsuc, _-ℤ_}

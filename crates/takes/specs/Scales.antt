@@ -1,7 +1,7 @@
 -- What codes are multiplied by, and the zeros that are taken off them: the first lines of `pw_take`, `pw_take_alt` and `pw_poll_dc` of the source.
 -- Zeros go by current range (ik), words and windows by calibration index (iu * 2 + ir), shunts by unit (iu), dividers by gain index (ir).
 use mathlib.Core.Bool.{cond}
-use Prim.Native.Nat.{ℕ, zero, suc, _+_, _*_}
+use Prim.Native.Nat.{ℕ, _+_, _*_}
 use lib.Dec.{eqb}
 use lib.IntN.{ℤ, pos, negsuc, _-ℤ_}
 use lib.ListN.{getD}

@@ -38,12 +38,10 @@ rootTooLarge root = lt (ofBits binary32 0x4880_0000) root
 
 -- ---- method B
 
--- the phase calibration's sum and count: `if cal != 0 && seen & 6 == 6 { s = v_ac * i_ac; if s > 0.0 { cal_acc += p / s; cal_n += 1 } }`
-unfoldable pub phaseCounted : PhaseCal → Float → ℕ → Parts → PhaseCal
-phaseCounted c p seen parts =
-    let s = parts .«v_ac» *f parts .«i_ac» in
-    cond (not (eqb (c .cal) 0) && bothSeen seen && lt zeroF s)
-    (record {
+-- the phase calibration's sum and count with one power more, at the apparent power s
+abbrev pub oneMore : PhaseCal → Float → Float → PhaseCal
+oneMore c p s =
+    record {
       sph = c .sph;
       cal = c .cal;
       «cal_n» = countUp (c .«cal_n»);
@@ -51,7 +49,14 @@ phaseCounted c p seen parts =
       «cal_s0» = c .«cal_s0»;
       «cal_pa» = c .«cal_pa»;
       «cal_res» = c .«cal_res»;
-    })
+    }
+
+-- `if cal != 0 && seen & 6 == 6 { s = v_ac * i_ac; if s > 0.0 { cal_acc += p / s; cal_n += 1 } }`
+unfoldable pub phaseCounted : PhaseCal → Float → ℕ → Parts → PhaseCal
+phaseCounted c p seen parts =
+    let s = parts .«v_ac» *f parts .«i_ac» in
+    cond (not (eqb (c .cal) 0) && bothSeen seen && lt zeroF s)
+    (oneMore c p s)
     c
 
 -- what XY leaves once the power p and the DC current are known; the calibration counts the power unsmoothed

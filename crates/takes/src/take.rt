@@ -1,6 +1,6 @@
 // One result of each kind: turned down and nothing changes, or taken.
 ghost use mathlib.Core.Path.{_≡_};
-ghost use Rattle.takes.specs.Take.{turnedDown, accepted, xyTooLarge, rootTooLarge, phaseCounted, takeXy, takeXx, takeYy, take, takeAltV, takeAltI, takeAlt, dcVTaken, seenWithPower, dcITaken};
+ghost use Rattle.takes.specs.Take.{xyTooLarge, rootTooLarge, phaseCounted, takeXy, takeXx, takeYy, take, takeAltV, takeAltI, takeAlt, dcVTaken, seenWithPower, dcITaken};
 use crate::parts::alt_v_parts;
 use crate::parts::dc_i_parts;
 use crate::parts::dc_v_parts;

@@ -1,5 +1,4 @@
 -- The constant with the two arguments put in.
-use borrow.Author.Needs.{needs}
 use mathlib.Core.Path.{refl}
 use lib.Ieee.{ofBits, round}
 use Rattle.tables.specs.Constants.{shuntOhm}
