@@ -2,7 +2,7 @@
 use mathlib.Core.Path.{_≡_, refl}
 use lib.Ieee.{ofBits, round}
 use Rattle.numbers.specs.Decimal.{decimal}
-use Rattle.paths.specs.Select.{leastOp}
+use Rattle.paths.specs.Comparator.{leastOp}
 
 pub literals : leastOp ≡ decimal 25 3
 unfolding ofBits round

@@ -1,4 +1,4 @@
--- What follows from the definitions: the ring notes every result, a result turned down changes nothing else, a V range that changes ends the DC path, and a frame leaves the automatic marks.
+-- What follows from the definitions: the ring notes every result, a result switched down changes nothing else, a V range that changes ends the DC path, and a frame leaves the automatic marks.
 use mathlib.Core.Path.{_≡_, refl, _∙_}
 use mathlib.Core.Bool.{Bool, true, false, cond}
 use Prim.Native.Nat.{ℕ, _+_, _%_}
@@ -16,11 +16,11 @@ use Rattle.ranging.specs.Autorange.{autorangeV, autorangeI}
 use Rattle.ranging.proofs.Stated.{v-leaves, i-leaves}
 use Rattle.paths.specs.declared.measuring.Measuring.{Measuring}
 use Rattle.paths.specs.declared.measuring.Outcome.{Outcome}
-use Rattle.paths.specs.Noted.{noteResult, noteCurrent}
-use Rattle.paths.specs.Measuring.{quiet, goesOn, withTaken, withCycle, withRing, measuredIn, withMeasured, rangingIn, rangedTo}
-use Rattle.paths.specs.MethodB.{bAutorange, bOn, bNext, bFrame}
-use Rattle.paths.specs.Alternating.{altAutorange, turned, altFull, altNext, altFrame}
-use Rattle.paths.specs.Dc.{dcVOn, dcVPart, dcIOn, dcIPart, dcFrame}
+use Rattle.paths.specs.Ring.{noteResult, noteCurrent}
+use Rattle.paths.specs.Measuring.{ends, goesOn, withTaken, withCycle, withRing, measuredIn, withMeasured, rangingIn, rangedTo}
+use Rattle.paths.specs.MethodB.{bAutorange, bUnranged, bNext, bFrame}
+use Rattle.paths.specs.Alternating.{altAutorange, switched, altPhaseDone, altNext, altFrame}
+use Rattle.paths.specs.Dc.{dcVResult, dcVPart, dcIResult, dcIPart, dcFrame}
 use Rattle.paths.specs.Frame.{frame}
 
 -- one of two has what both have
@@ -31,9 +31,9 @@ either P false x y f g = g
 -- ---- document 01: "The ring notes it all the same"
 
 module _ (w : Instrument) (mode : Mode) (codes : Codes) (now : ℕ) (m : Measuring) where
-  -- method B: dropped, turned down or taken, whatever comes after
+  -- method B: dropped, switched down or taken, whatever comes after
   pub b-notes : bFrame w mode codes now m .measuring .ring ≡ noteResult (m .ring) now (m .cycle .stat) (ltb 0 (m .cycle .skip)) codes
-  unfolding bFrame bNext bOn quiet goesOn rangedTo withMeasured
+  unfolding bFrame bNext bUnranged ends goesOn rangedTo withMeasured
   b-notes =
       let disc = ltb 0 (m .cycle .skip) in
       let r = noteResult (m .ring) now (m .cycle .stat) disc codes in
@@ -47,7 +47,7 @@ module _ (w : Instrument) (mode : Mode) (codes : Codes) (now : ℕ) (m : Measuri
 
   -- the alternating method
   pub alt-notes : altFrame w mode codes now m .measuring .ring ≡ noteResult (m .ring) now (1 + m .cycle .phase % 2) (ltb 0 (m .cycle .skip)) codes
-  unfolding altFrame altNext altFull turned quiet goesOn rangedTo withMeasured
+  unfolding altFrame altNext altPhaseDone switched ends goesOn rangedTo withMeasured
   alt-notes =
       let disc = ltb 0 (m .cycle .skip) in
       let r = noteResult (m .ring) now (1 + m .cycle .phase % 2) disc codes in
@@ -62,7 +62,7 @@ module _ (w : Instrument) (mode : Mode) (codes : Codes) (now : ℕ) (m : Measuri
 
   -- the voltage's part of the DC path
   pub dc-v-notes : dcVPart w mode codes now m .measuring .ring ≡ noteResult (m .ring) now 3 (ltb 0 (m .cycle .«skip_y»)) codes
-  unfolding dcVPart dcVOn quiet rangedTo withMeasured
+  unfolding dcVPart dcVResult ends rangedTo withMeasured
   dc-v-notes =
       let disc = ltb 0 (m .cycle .«skip_y») in
       let r = noteResult (m .ring) now 3 disc codes in
@@ -70,14 +70,14 @@ module _ (w : Instrument) (mode : Mode) (codes : Codes) (now : ℕ) (m : Measuri
       let P : Outcome → Type 0 = λ o. o .measuring .ring ≡ r in
       either P disc _ _ refl (either P (autorangeV (w .description) mode (n .parts) (rangingIn n) now .mark .set) _ _ refl refl)
 
-  -- ---- a result turned down changes nothing but the ring
+  -- ---- a result switched down changes nothing but the ring
   pub down-changes-ring : ltb 0 (m .cycle .skip) ≡ false → take w (m .ranges) (m .cycle .stat) codes (measuredIn m) .accepted ≡ false
-      → bFrame w mode codes now m ≡ quiet (withRing m (noteResult (m .ring) now (m .cycle .stat) false codes))
+      → bFrame w mode codes now m ≡ ends (withRing m (noteResult (m .ring) now (m .cycle .stat) false codes))
   unfolding bFrame
   down-changes-ring taken down = rw (taken, down)
 
   pub alt-down-changes-ring : ltb 0 (m .cycle .skip) ≡ false → takeAlt w (m .ranges) (m .cycle .phase) codes (measuredIn m) .accepted ≡ false
-      → altFrame w mode codes now m ≡ quiet (withRing m (noteResult (m .ring) now (1 + m .cycle .phase % 2) false codes))
+      → altFrame w mode codes now m ≡ ends (withRing m (noteResult (m .ring) now (1 + m .cycle .phase % 2) false codes))
   unfolding altFrame
   alt-down-changes-ring taken down = rw (taken, down)
 
@@ -87,11 +87,11 @@ module _ (w : Instrument) (mode : Mode) (codes : Codes) (now : ℕ) (m : Measuri
   v-range-ends flags ready marked = rw (ready, marked)
 
   -- ---- outside DC coupling nothing happens unless both RMS and LPF are ready; in it, nothing unless one of the two parts is
-  pub not-ready : (flags : ℕ) → mode .dc ≡ false → holdsRmsLpf flags ≡ false → frame w mode flags codes now m ≡ quiet m
+  pub not-ready : (flags : ℕ) → mode .dc ≡ false → holdsRmsLpf flags ≡ false → frame w mode flags codes now m ≡ ends m
   unfolding frame
   not-ready flags other none = rw (other, none)
 
-  pub dc-not-ready : (flags : ℕ) → mode .dc ≡ true → holdsRmsLpf flags ≡ false → holdsAd1 flags ≡ false → frame w mode flags codes now m ≡ quiet m
+  pub dc-not-ready : (flags : ℕ) → mode .dc ≡ true → holdsRmsLpf flags ≡ false → holdsAd1 flags ≡ false → frame w mode flags codes now m ≡ ends m
   unfolding frame dcFrame dcIPart
   dc-not-ready flags dc none no-ad1 = rw (dc, none, no-ad1)
 
@@ -118,7 +118,7 @@ module _ (w : Instrument) (mode : Mode) (now : ℕ) where
 
   module _ (codes : Codes) where
     b-marks : (m : Measuring) → Marks m (bFrame w mode codes now m .measuring .ranges)
-    unfolding bFrame bNext bOn quiet goesOn rangedTo withMeasured
+    unfolding bFrame bNext bUnranged ends goesOn rangedTo withMeasured
     b-marks m =
         let disc = ltb 0 (m .cycle .skip) in
         let t = take w (m .ranges) (m .cycle .stat) codes (measuredIn m) in
@@ -130,7 +130,7 @@ module _ (w : Instrument) (mode : Mode) (now : ℕ) where
         (either P (bAutorange w mode now n .mark .set) _ _ (b-ranged n) (refl, refl))) (refl, refl))
 
     alt-marks : (m : Measuring) → Marks m (altFrame w mode codes now m .measuring .ranges)
-    unfolding altFrame altNext altFull turned quiet goesOn rangedTo withMeasured
+    unfolding altFrame altNext altPhaseDone switched ends goesOn rangedTo withMeasured
     alt-marks m =
         let disc = ltb 0 (m .cycle .skip) in
         let t = takeAlt w (m .ranges) (m .cycle .phase) codes (measuredIn m) in
@@ -144,7 +144,7 @@ module _ (w : Instrument) (mode : Mode) (now : ℕ) where
         (either P (altAutorange w mode now full .mark .set) _ _ (alt-ranged full) (refl, refl))) (refl, refl))
 
     dc-v-marks : (m : Measuring) → Marks m (dcVPart w mode codes now m .measuring .ranges)
-    unfolding dcVPart dcVOn quiet rangedTo withMeasured
+    unfolding dcVPart dcVResult ends rangedTo withMeasured
     dc-v-marks m =
         let disc = ltb 0 (m .cycle .«skip_y») in
         let r = withRing m (noteResult (m .ring) now 3 disc codes) in
@@ -153,7 +153,7 @@ module _ (w : Instrument) (mode : Mode) (now : ℕ) where
         either P disc _ _ (refl, refl) (either P (autorangeV (w .description) mode (n .parts) (rangingIn n) now .mark .set) _ _ (ranged-v n) (refl, refl))
 
     dc-i-marks : (flags : ℕ) (m : Measuring) → Marks m (dcIPart w mode flags codes now m .measuring .ranges)
-    unfolding dcIPart dcIOn quiet goesOn rangedTo withMeasured
+    unfolding dcIPart dcIResult ends goesOn rangedTo withMeasured
     dc-i-marks flags m =
         let n = withMeasured (withRing m (noteCurrent (m .ring) (codes .ad1))) (dcITaken w (m .ranges .ik) codes (measuredIn m)) in
         let P : Outcome → Type 0 = λ o. Marks m (o .measuring .ranges) in
@@ -171,7 +171,7 @@ module _ (w : Instrument) (mode : Mode) (now : ℕ) where
         either P (holdsRmsLpf flags) _ _ (either P (v .mark .set) _ _ e (f .0 ∙ e .0, f .1 ∙ e .1)) (dc-i-marks flags m)
 
     pub marks-stay : (flags : ℕ) (m : Measuring) → Marks m (frame w mode flags codes now m .measuring .ranges)
-    unfolding frame quiet
+    unfolding frame ends
     marks-stay flags m =
         let P : Outcome → Type 0 = λ o. Marks m (o .measuring .ranges) in
         either P (mode .dc) _ _ (dc-marks flags m) (either P (holdsRmsLpf flags) _ _ (either P (mode .alt) _ _ (alt-marks m) (b-marks m)) (refl, refl))

@@ -11,11 +11,11 @@ use Rattle.takes.specs.declared.take.Taken.{Taken}
 use Rattle.takes.specs.Take.{takeAlt}
 use Rattle.ranging.specs.declared.autorange.Ranged.{Ranged}
 use Rattle.ranging.specs.Autorange.{autorangeV, autorangeI}
-use Rattle.ranging.specs.Cycle.{altTurn}
+use Rattle.ranging.specs.Cycle.{altSwitch}
 use Rattle.paths.specs.declared.measuring.Measuring.{Measuring}
 use Rattle.paths.specs.declared.measuring.Outcome.{Outcome}
-use Rattle.paths.specs.Noted.{noteResult}
-use Rattle.paths.specs.Measuring.{quiet, goesOn, withSkip, withTaken, withCycle, withRing, measuredIn, withMeasured, rangingIn, rangedTo}
+use Rattle.paths.specs.Ring.{noteResult}
+use Rattle.paths.specs.Measuring.{ends, goesOn, withSkip, withTaken, withCycle, withRing, measuredIn, withMeasured, rangingIn, rangedTo}
 
 -- `pw_autorange(clk, phase & 1 == 0)`
 unfoldable pub altAutorange : Instrument → Mode → ℕ → Measuring → Ranged
@@ -23,33 +23,33 @@ altAutorange w mode now m =
     cond (eqb (m .cycle .phase % 2) 0) (autorangeV (w .description) mode (m .parts) (rangingIn m) now)
     (autorangeI (w .description) mode (m .parts) (rangingIn m) now)
 
--- the other row, with its mark; the frame is accounted as well
-unfoldable pub turned : ℕ → Measuring → Outcome
-turned now m =
+-- the other row, with its mark; the frame goes on to the values as well
+unfoldable pub switched : ℕ → Measuring → Outcome
+switched now m =
     record {
-      measuring = withCycle m (altTurn (m .cycle) now .cycle);
-      mark = record { set = true; at = altTurn (m .cycle) now .deadline };
+      measuring = withCycle m (altSwitch (m .cycle) now .cycle);
+      mark = record { set = true; at = altSwitch (m .cycle) now .deadline };
       accounts = true;
     }
 
 -- the phase has its results
-unfoldable pub altFull : Instrument → Mode → ℕ → Measuring → Outcome
-altFull w mode now m = cond (altAutorange w mode now m .mark .set) (rangedTo m (altAutorange w mode now m)) (turned now m)
+unfoldable pub altPhaseDone : Instrument → Mode → ℕ → Measuring → Outcome
+altPhaseDone w mode now m = cond (altAutorange w mode now m .mark .set) (rangedTo m (altAutorange w mode now m)) (switched now m)
 
 -- `taken += 1; if taken >= ALT_N`
 unfoldable pub altNext : Instrument → Mode → ℕ → Measuring → Outcome
 altNext w mode now m =
     let n = countUp (m .cycle .taken) in
     let counted = withCycle m (withTaken (m .cycle) n) in
-    cond (ltb n altN) (goesOn counted) (altFull w mode now counted)
+    cond (ltb n altN) (goesOn counted) (altPhaseDone w mode now counted)
 
-abbrev pub altTaken : Instrument → Mode → ℕ → Measuring → Taken → Outcome
-altTaken w mode now m t = cond (t .accepted) (altNext w mode now (withMeasured m (t .measured))) (quiet m)
+abbrev pub altAfterTake : Instrument → Mode → ℕ → Measuring → Taken → Outcome
+altAfterTake w mode now m t = cond (t .accepted) (altNext w mode now (withMeasured m (t .measured))) (ends m)
 
 -- the ring's `stat` is `1 + (phase & 1)`
 unfoldable pub altFrame : Instrument → Mode → Codes → ℕ → Measuring → Outcome
 altFrame w mode codes now m =
     let disc = ltb 0 (m .cycle .skip) in
     let noted = withRing m (noteResult (m .ring) now (1 + m .cycle .phase % 2) disc codes) in
-    cond disc (quiet (withCycle noted (withSkip (m .cycle) (m .cycle .skip - 1))))
-    (altTaken w mode now noted (takeAlt w (m .ranges) (m .cycle .phase) codes (measuredIn m)))
+    cond disc (ends (withCycle noted (withSkip (m .cycle) (m .cycle .skip - 1))))
+    (altAfterTake w mode now noted (takeAlt w (m .ranges) (m .cycle .phase) codes (measuredIn m)))

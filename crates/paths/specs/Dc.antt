@@ -11,8 +11,8 @@ use Rattle.ranging.specs.declared.autorange.Ranged.{Ranged}
 use Rattle.ranging.specs.Autorange.{autorangeV, autorangeI}
 use Rattle.paths.specs.declared.measuring.Measuring.{Measuring}
 use Rattle.paths.specs.declared.measuring.Outcome.{Outcome}
-use Rattle.paths.specs.Noted.{noteResult, noteCurrent}
-use Rattle.paths.specs.Measuring.{quiet, goesOn, withSkip, withSkipY, withCycle, withRing, measuredIn, withMeasured, rangingIn, rangedTo}
+use Rattle.paths.specs.Ring.{noteResult, noteCurrent}
+use Rattle.paths.specs.Measuring.{ends, goesOn, withSkip, withSkipY, withCycle, withRing, measuredIn, withMeasured, rangingIn, rangedTo}
 
 -- a range that was applied ends the frame
 abbrev pub unlessRanged : Measuring → Outcome → Ranged → Outcome
@@ -22,24 +22,24 @@ unlessRanged m otherwise r = cond (r .mark .set) (rangedTo m r) otherwise
 abbrev pub dcVAfter : Instrument → Codes → Measuring → Measuring
 dcVAfter w codes m = withMeasured m (dcVTaken w (m .ranges .vr) codes (measuredIn m))
 
-unfoldable pub dcVOn : Instrument → Mode → Codes → ℕ → Measuring → Outcome
-dcVOn w mode codes now m =
+unfoldable pub dcVResult : Instrument → Mode → Codes → ℕ → Measuring → Outcome
+dcVResult w mode codes now m =
     let after = dcVAfter w codes m in
-    unlessRanged after (quiet after) (autorangeV (w .description) mode (after .parts) (rangingIn after) now)
+    unlessRanged after (ends after) (autorangeV (w .description) mode (after .parts) (rangingIn after) now)
 
 -- the ring's entry has `stat: 3`, and `disc: skip_y > 0`
 unfoldable pub dcVPart : Instrument → Mode → Codes → ℕ → Measuring → Outcome
 dcVPart w mode codes now m =
     let disc = ltb 0 (m .cycle .«skip_y») in
     let noted = withRing m (noteResult (m .ring) now 3 disc codes) in
-    cond disc (quiet (withCycle noted (withSkipY (m .cycle) (m .cycle .«skip_y» - 1)))) (dcVOn w mode codes now noted)
+    cond disc (ends (withCycle noted (withSkipY (m .cycle) (m .cycle .«skip_y» - 1)))) (dcVResult w mode codes now noted)
 
 -- the current is taken, with the ring's entry
 abbrev pub dcIAfter : Instrument → Codes → Measuring → Measuring
 dcIAfter w codes m = withMeasured (withRing m (noteCurrent (m .ring) (codes .ad1))) (dcITaken w (m .ranges .ik) codes (measuredIn m))
 
-unfoldable pub dcIOn : Instrument → Mode → Codes → ℕ → Measuring → Outcome
-dcIOn w mode codes now m =
+unfoldable pub dcIResult : Instrument → Mode → Codes → ℕ → Measuring → Outcome
+dcIResult w mode codes now m =
     let after = dcIAfter w codes m in
     unlessRanged after (goesOn after) (autorangeI (w .description) mode (after .parts) (rangingIn after) now)
 
@@ -47,8 +47,8 @@ dcIOn w mode codes now m =
 unfoldable pub dcIPart : Instrument → Mode → ℕ → Codes → ℕ → Measuring → Outcome
 dcIPart w mode flags codes now m =
     cond (holdsAd1 flags)
-    (cond (ltb 0 (m .cycle .skip)) (quiet (withCycle m (withSkip (m .cycle) (m .cycle .skip - 1)))) (dcIOn w mode codes now m))
-    (quiet m)
+    (cond (ltb 0 (m .cycle .skip)) (ends (withCycle m (withSkip (m .cycle) (m .cycle .skip - 1)))) (dcIResult w mode codes now m))
+    (ends m)
 
 -- a V range that changed ends the frame, its AD1 unread
 abbrev pub dcAfterV : Instrument → Mode → ℕ → Codes → ℕ → Outcome → Outcome

@@ -1,5 +1,5 @@
-pub mod Noted
-pub mod Select
+pub mod Ring
+pub mod Comparator
 pub mod Measuring
 pub mod MethodB
 pub mod Alternating

@@ -1,4 +1,4 @@
--- What a frame outside a job may change, and what it answers: rule 1 of docs/ARCHITECTURE.md. Nothing else of the meter is handed to it.
+-- What a frame outside a job may change, and what it answers: rule 1 of docs/ARCHITECTURE.md. It also reads the description, the words, the corrections and the mode; nothing else of the meter is handed to it.
 use mathlib.Core.Bool.{true, false}
 use Prim.Native.Nat.{ℕ}
 use Rattle.state.specs.declared.Comparator.{Comparator}
@@ -11,9 +11,9 @@ use Rattle.ranging.specs.declared.autorange.Ranged.{Ranged}
 use Rattle.paths.specs.declared.measuring.Measuring.{Measuring}
 use Rattle.paths.specs.declared.measuring.Outcome.{Outcome}
 
--- no mark, and nothing to account
-unfoldable pub quiet : Measuring → Outcome
-quiet m = record { measuring = m; mark = never; accounts = false }
+-- the frame ends here: no mark, and no values
+unfoldable pub ends : Measuring → Outcome
+ends m = record { measuring = m; mark = never; accounts = false }
 
 -- the source goes on to `pw_vals` and `pw_account`
 unfoldable pub goesOn : Measuring → Outcome
@@ -67,7 +67,7 @@ withMeasured m t =
 unfoldable pub rangingIn : Measuring → Ranging
 rangingIn m = record { ranges = m .ranges; barred = m .barred; cycle = m .cycle; comparator = m .comparator }
 
--- a range was applied: its mark, and nothing to account
+-- a range was applied: its mark, and no values
 unfoldable pub rangedTo : Measuring → Ranged → Outcome
 rangedTo m r =
     record {

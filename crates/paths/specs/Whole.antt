@@ -18,7 +18,7 @@ measuringIn m =
       ring = m .ring;
     }
 
--- all else stays: description and words, mode, powers, tally, clock, limit, settings, corrections and job
+-- all else stays: description and words, mode, powers, tally, clock, `over_t0`, settings, corrections and job. `t_poll` is set by the frame call (module 7), before this
 unfoldable pub withMeasuring : Pw → Measuring → Pw
 withMeasuring m x =
     record {

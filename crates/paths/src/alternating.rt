@@ -1,11 +1,11 @@
-// A frame in the alternating method (the first half of the source's `poll_power`).
+// A frame in the alternating method (the source's `poll_power` where `alt` is true).
 ghost use mathlib.Core.Path.{_≡_};
-ghost use Rattle.paths.specs.Alternating.{altAutorange, turned, altFull, altNext, altFrame};
+ghost use Rattle.paths.specs.Alternating.{altAutorange, switched, altPhaseDone, altNext, altFrame};
 use crate::measuring::Measuring;
 use crate::measuring::Outcome;
+use crate::measuring::ends;
 use crate::measuring::goes_on;
 use crate::measuring::measured_in;
-use crate::measuring::quiet;
 use crate::measuring::ranged_to;
 use crate::measuring::ranging_in;
 use crate::measuring::with_measured;
@@ -14,7 +14,7 @@ use codes::Codes;
 use ranging::autorange::Ranged;
 use ranging::autorange::autorange_i;
 use ranging::autorange::autorange_v;
-use ranging::cycle::alt_turn;
+use ranging::cycle::alt_switch;
 use state::Mode;
 use state::Stamp;
 use state::count_up;
@@ -35,11 +35,11 @@ fn alt_autorange(with: Instrument, mode: Mode, now: u64, before: Measuring) -> R
     autorange_i(description, mode, parts, ranging, now)
 }
 
-// No range changed: the other row is written, and the frame is accounted all the same.
-fn turned(now: u64, before: Measuring) -> Outcome
-    ensures { λ r. ⌜ r ≡ turned now before ⌝ }
+// No range changed: the other row comes, with a mark, and the frame goes on to the values all the same.
+fn switched(now: u64, before: Measuring) -> Outcome
+    ensures { λ r. ⌜ r ≡ switched now before ⌝ }
 {
-    let turn = alt_turn(before.cycle, now);
+    let turn = alt_switch(before.cycle, now);
     let cycle = turn.cycle;
     let mut after = before;
     after.cycle = cycle;
@@ -54,14 +54,14 @@ fn turned(now: u64, before: Measuring) -> Outcome
 }
 
 // The phase has its results: a range changes, or the other row comes.
-fn alt_full(with: Instrument, mode: Mode, now: u64, before: Measuring) -> Outcome
-    ensures { λ r. ⌜ r ≡ altFull with mode now before ⌝ }
+fn alt_phase_done(with: Instrument, mode: Mode, now: u64, before: Measuring) -> Outcome
+    ensures { λ r. ⌜ r ≡ altPhaseDone with mode now before ⌝ }
 {
     let ranged = alt_autorange(with, mode, now, before);
     if ranged.mark.set {
         return ranged_to(before, ranged);
     }
-    turned(now, before)
+    switched(now, before)
 }
 
 // After a result was taken.
@@ -74,10 +74,10 @@ fn alt_next(with: Instrument, mode: Mode, now: u64, before: Measuring) -> Outcom
     if n < ALT_N {
         return goes_on(after);
     }
-    alt_full(with, mode, now, after)
+    alt_phase_done(with, mode, now, after)
 }
 
-// The ring's entry; then a dropped result, one turned down, or one taken.
+// The ring's entry; then a dropped result, one switched down, or one taken.
 pub(crate) fn alt_frame(
     with: Instrument,
     mode: Mode,
@@ -95,11 +95,11 @@ pub(crate) fn alt_frame(
     if skip > 0 {
         let left = skip - 1;
         noted.cycle.skip = left;
-        return quiet(noted);
+        return ends(noted);
     }
     let taken = take_alt(with, before.ranges, phase, codes, measured_in(before));
     if taken.accepted {
         return alt_next(with, mode, now, with_measured(noted, taken.measured));
     }
-    quiet(noted)
+    ends(noted)
 }

@@ -1,7 +1,7 @@
 // The comparator's source and window after a voltage or current result (the source's
 // `pw_cmp_select`).
 ghost use mathlib.Core.Path.{_≡_};
-ghost use Rattle.paths.specs.Select.{tapScale, opVolts, chosen, cmpSelect};
+ghost use Rattle.paths.specs.Comparator.{tapScale, opVolts, chosen, cmpSelect};
 use state::Comparator;
 use state::Parts;
 use state::Ranges;
@@ -60,7 +60,7 @@ fn chosen(window: Window, op: f32, before: Comparator) -> Comparator
     }
 }
 
-// Once voltage and current are measured.
+// The choice, once voltage and current are marked as measured; before that nothing changes.
 pub(crate) fn cmp_select(
     with: Instrument,
     ranges: Ranges,

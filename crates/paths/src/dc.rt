@@ -1,12 +1,12 @@
 // A frame in DC coupling (the source's `pw_poll_dc`): the voltage of RMS and LPF, then the current of
 // AD1. Document 01 takes AD1 from the same frame.
 ghost use mathlib.Core.Path.{_≡_};
-ghost use Rattle.paths.specs.Dc.{dcVOn, dcVPart, dcIOn, dcIPart, dcFrame};
+ghost use Rattle.paths.specs.Dc.{dcVResult, dcVPart, dcIResult, dcIPart, dcFrame};
 use crate::measuring::Measuring;
 use crate::measuring::Outcome;
+use crate::measuring::ends;
 use crate::measuring::goes_on;
 use crate::measuring::measured_in;
-use crate::measuring::quiet;
 use crate::measuring::ranged_to;
 use crate::measuring::ranging_in;
 use crate::measuring::with_measured;
@@ -23,8 +23,8 @@ use takes::take::dc_i_taken;
 use takes::take::dc_v_taken;
 
 // A voltage is taken; where its range changes, the frame ends there.
-fn dc_v_on(with: Instrument, mode: Mode, codes: Codes, now: u64, before: Measuring) -> Outcome
-    ensures { λ r. ⌜ r ≡ dcVOn with mode codes now before ⌝ }
+fn dc_v_result(with: Instrument, mode: Mode, codes: Codes, now: u64, before: Measuring) -> Outcome
+    ensures { λ r. ⌜ r ≡ dcVResult with mode codes now before ⌝ }
 {
     let measured = dc_v_taken(with, before.ranges.vr, codes, measured_in(before));
     let after = with_measured(before, measured);
@@ -32,7 +32,7 @@ fn dc_v_on(with: Instrument, mode: Mode, codes: Codes, now: u64, before: Measuri
     if ranged.mark.set {
         return ranged_to(after, ranged);
     }
-    quiet(after)
+    ends(after)
 }
 
 // The voltage's part of the frame: the ring's entry, then a dropped result or one taken.
@@ -46,14 +46,14 @@ fn dc_v_part(with: Instrument, mode: Mode, codes: Codes, now: u64, before: Measu
     if skip_y > 0 {
         let left = skip_y - 1;
         noted.cycle.skip_y = left;
-        return quiet(noted);
+        return ends(noted);
     }
-    dc_v_on(with, mode, codes, now, noted)
+    dc_v_result(with, mode, codes, now, noted)
 }
 
 // A current is taken: the ring's entry, the take, and its autorange.
-fn dc_i_on(with: Instrument, mode: Mode, codes: Codes, now: u64, before: Measuring) -> Outcome
-    ensures { λ r. ⌜ r ≡ dcIOn with mode codes now before ⌝ }
+fn dc_i_result(with: Instrument, mode: Mode, codes: Codes, now: u64, before: Measuring) -> Outcome
+    ensures { λ r. ⌜ r ≡ dcIResult with mode codes now before ⌝ }
 {
     let ring = note_current(before.ring, codes.ad1);
     let mut noted = before;
@@ -84,11 +84,11 @@ fn dc_i_part(
         if skip > 0 {
             let left = skip - 1;
             dropped.cycle.skip = left;
-            return quiet(dropped);
+            return ends(dropped);
         }
-        return dc_i_on(with, mode, codes, now, before);
+        return dc_i_result(with, mode, codes, now, before);
     }
-    quiet(before)
+    ends(before)
 }
 
 // The voltage where RMS and LPF are ready, and then, unless the V range changed, the current.

@@ -5,7 +5,7 @@ use crate::alternating::alt_frame;
 use crate::dc::dc_frame;
 use crate::measuring::Measuring;
 use crate::measuring::Outcome;
-use crate::measuring::quiet;
+use crate::measuring::ends;
 use crate::method_b::b_frame;
 use codes::Codes;
 use codes::holds_rms_lpf;
@@ -32,5 +32,5 @@ pub fn frame(
         }
         return b_frame(with, mode, codes, now, before);
     }
-    quiet(before)
+    ends(before)
 }

@@ -1,6 +1,6 @@
 // What a frame outside a job may change, and what it answers.
 ghost use mathlib.Core.Path.{_≡_};
-ghost use Rattle.paths.specs.Measuring.{quiet, goesOn, measuredIn, withMeasured, rangingIn, rangedTo};
+ghost use Rattle.paths.specs.Measuring.{ends, goesOn, measuredIn, withMeasured, rangingIn, rangedTo};
 use ranging::autorange::Ranged;
 use ranging::autorange::Ranging;
 use state::Comparator;
@@ -12,6 +12,7 @@ use state::Ring;
 use state::Stamp;
 use takes::take::Measured;
 
+// The meter's fields that a frame outside a job may change.
 #[repr(C)]
 pub struct Measuring {
     pub ranges: Ranges,
@@ -23,7 +24,8 @@ pub struct Measuring {
     pub ring: Ring,
 }
 
-// What stands after the frame, the mark to the host, and whether the frame goes on to its accounting.
+// What stands after the frame, the mark to the host, and whether the frame goes on to the values, and
+// with them to its accounting.
 #[repr(C)]
 pub struct Outcome {
     pub measuring: Measuring,
@@ -31,9 +33,9 @@ pub struct Outcome {
     pub accounts: bool,
 }
 
-// No mark, no accounting.
-pub(crate) fn quiet(measuring: Measuring) -> Outcome
-    ensures { λ r. ⌜ r ≡ quiet measuring ⌝ }
+// The frame ends: no mark, no values.
+pub(crate) fn ends(measuring: Measuring) -> Outcome
+    ensures { λ r. ⌜ r ≡ ends measuring ⌝ }
 {
     Outcome {
         measuring,
@@ -42,7 +44,7 @@ pub(crate) fn quiet(measuring: Measuring) -> Outcome
     }
 }
 
-// No mark; the frame is accounted.
+// No mark; the frame goes on to the values.
 pub(crate) fn goes_on(measuring: Measuring) -> Outcome
     ensures { λ r. ⌜ r ≡ goesOn measuring ⌝ }
 {
@@ -94,7 +96,7 @@ pub(crate) fn ranging_in(measuring: Measuring) -> Ranging
     }
 }
 
-// A range was applied: its mark, and no accounting.
+// A range was applied: its mark, and no values.
 pub(crate) fn ranged_to(before: Measuring, ranged: Ranged) -> Outcome
     ensures { λ r. ⌜ r ≡ rangedTo before ranged ⌝ }
 {

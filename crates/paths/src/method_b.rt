@@ -1,12 +1,12 @@
-// A frame in method B (the second half of the source's `poll_power`).
+// A frame in method B (the source's `poll_power` where `alt` is false).
 ghost use mathlib.Core.Path.{_≡_};
-ghost use Rattle.paths.specs.MethodB.{bAutorange, bOn, bNext, bFrame};
+ghost use Rattle.paths.specs.MethodB.{bAutorange, bUnranged, bNext, bFrame};
 use crate::comparator::cmp_select;
 use crate::measuring::Measuring;
 use crate::measuring::Outcome;
+use crate::measuring::ends;
 use crate::measuring::goes_on;
 use crate::measuring::measured_in;
-use crate::measuring::quiet;
 use crate::measuring::ranged_to;
 use crate::measuring::ranging_in;
 use crate::measuring::with_measured;
@@ -36,8 +36,8 @@ fn b_autorange(with: Instrument, mode: Mode, now: u64, before: Measuring) -> Ran
 }
 
 // No range changed: the comparator's choice, and the next phase.
-fn b_on(with: Instrument, before: Measuring) -> Outcome
-    ensures { λ r. ⌜ r ≡ bOn with before ⌝ }
+fn b_unranged(with: Instrument, before: Measuring) -> Outcome
+    ensures { λ r. ⌜ r ≡ bUnranged with before ⌝ }
 {
     let ranges = before.ranges;
     let comparator = cmp_select(
@@ -68,10 +68,10 @@ fn b_next(with: Instrument, mode: Mode, now: u64, before: Measuring) -> Outcome
     if ranged.mark.set {
         return ranged_to(before, ranged);
     }
-    b_on(with, before)
+    b_unranged(with, before)
 }
 
-// The ring's entry; then a dropped result, one turned down, or one taken.
+// The ring's entry; then a dropped result, one switched down, or one taken.
 pub(crate) fn b_frame(
     with: Instrument,
     mode: Mode,
@@ -89,11 +89,11 @@ pub(crate) fn b_frame(
     if skip > 0 {
         let left = skip - 1;
         noted.cycle.skip = left;
-        return quiet(noted);
+        return ends(noted);
     }
     let taken = take(with, before.ranges, stat, codes, measured_in(before));
     if taken.accepted {
         return b_next(with, mode, now, with_measured(noted, taken.measured));
     }
-    quiet(noted)
+    ends(noted)
 }

@@ -1,12 +1,12 @@
 // The ring: the sixteen latest conversions, by `ring_k` modulo 16.
 ghost use mathlib.Core.Path.{_≡_};
-ghost use Rattle.paths.specs.Noted.{heldDt, nextNumber, noted, noteResult, noteCurrent};
+ghost use Rattle.paths.specs.Ring.{heldDt, nextNumber, noted, noteResult, noteCurrent};
 use codes::Codes;
 use state::Ring;
 use state::elapsed;
 
-// One conversion: which result it was, whether it was dropped, its codes, and the ms since the one
-// before.
+// One conversion: which result it was, whether it was dropped, its codes, and the ms since the RMS and
+// LPF result before it.
 pub struct Raw {
     pub stat: u8,
     pub disc: bool,
@@ -15,7 +15,7 @@ pub struct Raw {
     pub dt: u16,
 }
 
-// The ms since the last result, held to 65535.
+// The ms since the last RMS and LPF result, held to 65535.
 fn held_dt(now: u64, t_res: u64) -> u16
     ensures { λ r. ⌜ r ≡ heldDt now «t_res» ⌝ }
 {
@@ -30,7 +30,7 @@ fn next_number(k: u32) -> u32
     if k < 4294967295 { k + 1 } else { 0 }
 }
 
-// The ring with a conversion in the oldest one's place.
+// The ring with a conversion at `ring_k` modulo 16, which once sixteen are in is the oldest one's place.
 fn noted(before: Ring, raw: Raw) -> Ring
     ensures { λ r. ⌜ r ≡ noted before raw ⌝ }
 {

@@ -7,7 +7,7 @@ use Rattle.tables.specs.declared.description.Description.{Description}
 use Rattle.state.specs.declared.Comparator.{Comparator}
 use Rattle.state.specs.declared.Cycle.{Cycle}
 use Rattle.state.specs.declared.Mode.{Mode}
-use Rattle.state.specs.declared.Part.the-variants as part
+use Rattle.state.specs.declared.Quantity.the-variants as part
 use Rattle.state.specs.declared.Parts.{Parts}
 use Rattle.state.specs.declared.Ranges.{Ranges}
 use Rattle.state.specs.Seen.{bitOf, hasSeen}

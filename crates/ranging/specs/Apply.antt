@@ -6,25 +6,26 @@ use Rattle.tables.specs.Constants.{cycleAt, r20Sense, r21Default, settleMs, alt
 use Rattle.state.specs.declared.Mode.{Mode}
 use Rattle.state.specs.declared.Cycle.{Cycle}
 use Rattle.state.specs.declared.Comparator.{Comparator}
-use Rattle.state.specs.declared.Part.{Part}
-use Rattle.state.specs.declared.Part.the-variants as part
+use Rattle.state.specs.declared.Quantity.{Quantity}
+use Rattle.state.specs.declared.Quantity.the-variants as part
 use Rattle.state.specs.Seen.{bitOf, hasSeen}
 use Rattle.state.specs.Counting.{deadline}
 use Rattle.ranging.specs.declared.apply.Keep.{Keep}
 use Rattle.ranging.specs.declared.apply.Keep.the-variants.{Nothing, Voltage, Current}
 use Rattle.ranging.specs.declared.apply.Applied.{Applied}
 
--- "After a range change of one channel its own statistic comes first": phase 3 is the current's, phase 1 the voltage's. So in method B only
+-- "After a range change of one channel its own statistic comes first": phase 3 is the current's, phase 1 the voltage's
 abbrev pub firstPhase : Keep → ℕ
 firstPhase Nothing = 0
 firstPhase Voltage = 3
 firstPhase Current = 1
 
+-- in method B only; in DC coupling and in the alternating method phase 0
 unfoldable pub phaseAfter : Keep → Mode → ℕ
 phaseAfter keep mode = cond (mode .dc || mode .alt) 0 (firstPhase keep)
 
 -- `seen & bit`
-unfoldable pub bitIn : ℕ → Part → ℕ
+unfoldable pub bitIn : ℕ → Quantity → ℕ
 bitIn seen p = cond (hasSeen seen p) (bitOf p) 0
 
 -- `seen &= keep & !1`, with `keep` 0, 2 or 4

@@ -5,7 +5,7 @@ use lib.Dec.{eqb}
 use Rattle.tables.specs.Constants.{cycleAt, discDefault, altVSkip, altVSettleMs, settleMs}
 use Rattle.state.specs.declared.Cycle.{Cycle}
 use Rattle.state.specs.Counting.{deadline}
-use Rattle.ranging.specs.declared.cycle.Turned.{Turned}
+use Rattle.ranging.specs.declared.cycle.Switched.{Switched}
 
 -- method B: `phase = (phase + 1) % 4`; where `CYCLE[phase]` is not `stat`, it becomes `stat` and `skip` is `DISC_DEFAULT`
 abbrev pub nextPhase : Cycle → ℕ
@@ -27,8 +27,8 @@ unfoldable pub otherPhase : ℕ → ℕ
 otherPhase phase = cond (eqb (phase % 2) 0) (phase + 1) (phase - 1)
 
 -- the alternating method: an even phase is V's. "settle 600 ms and drop 4"
-abbrev pub turnedTo : ℕ → Cycle → ℕ → Turned
-turnedTo phase c now =
+abbrev pub switchedTo : ℕ → Cycle → ℕ → Switched
+switchedTo phase c now =
     record {
       cycle = record {
         phase = phase;
@@ -41,5 +41,5 @@ turnedTo phase c now =
       deadline = deadline now (cond (eqb (phase % 2) 0) altVSettleMs settleMs);
     }
 
-unfoldable pub altTurn : Cycle → ℕ → Turned
-altTurn c now = turnedTo (otherPhase (c .phase)) c now
+unfoldable pub altSwitch : Cycle → ℕ → Switched
+altSwitch c now = switchedTo (otherPhase (c .phase)) c now

@@ -1,10 +1,11 @@
-// The apply (the source's `pw_apply`): the row is written anew, and measuring starts over.
+// The apply (the source's `pw_apply`): measuring starts over, but for a channel that is kept, and the
+// host writes the row at the mark.
 ghost use mathlib.Core.Path.{_≡_};
 ghost use Rattle.ranging.specs.Apply.{phaseAfter, bitIn, keptSeen, skipAfter, comparatorFor, apply};
 use state::Comparator;
 use state::Cycle;
 use state::Mode;
-use state::Part;
+use state::Quantity;
 use state::bit_of;
 use state::deadline;
 use state::has_seen;
@@ -30,7 +31,8 @@ pub struct Applied {
     pub deadline: u64,
 }
 
-// The phase to start with: in method B the statistic of the channel that is not kept comes first.
+// The phase to start with: in method B, where one channel is kept, the other's statistic comes first;
+// else phase 0.
 fn phase_after(keep: Keep, mode: Mode) -> u8
     ensures { λ r. ⌜ r ≡ phaseAfter keep mode ⌝ }
 {
@@ -48,7 +50,7 @@ fn phase_after(keep: Keep, mode: Mode) -> u8
 }
 
 // The bit of a part in `seen`, 0 where it is not set.
-fn bit_in(seen: u8, part: Part) -> u8
+fn bit_in(seen: u8, part: Quantity) -> u8
     ensures { λ r. ⌜ r ≡ bitIn seen part ⌝ }
 {
     if has_seen(seen, part) {
@@ -64,8 +66,8 @@ fn kept_seen(keep: Keep, seen: u8) -> u8
 {
     match keep {
         Keep::Nothing => 0,
-        Keep::Voltage => bit_in(seen, Part::Voltage),
-        Keep::Current => bit_in(seen, Part::Current),
+        Keep::Voltage => bit_in(seen, Quantity::Voltage),
+        Keep::Current => bit_in(seen, Quantity::Current),
     }
 }
 
@@ -82,7 +84,8 @@ fn skip_after(mode: Mode) -> u8
     0
 }
 
-// The comparator, with its default window where the one chosen was for another V range.
+// The comparator; back to its default source and window where the ones chosen were for another V
+// range.
 fn comparator_for(vr: u8, comparator: Comparator) -> Comparator
     ensures { λ r. ⌜ r ≡ comparatorFor vr comparator ⌝ }
 {

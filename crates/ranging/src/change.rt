@@ -83,7 +83,8 @@ pub(crate) fn trips(description: Description, ranges: Ranges, parts: Parts) -> b
     overload_trips(u.iu, u.ir, true, over)
 }
 
-// The unit barred after a trip on current range ik: the coarser of the two.
+// The unit barred after a trip on current range ik: that range's, or the one barred before where that
+// is coarser.
 pub(crate) fn barred_after(barred: u8, ik: u8) -> u8
     ensures { λ r. ⌜ r ≡ barredAfter barred ik ⌝ }
 {

@@ -1,6 +1,6 @@
 // The way from one phase to the next.
 ghost use mathlib.Core.Path.{_≡_};
-ghost use Rattle.ranging.specs.Cycle.{advance, otherPhase, altTurn};
+ghost use Rattle.ranging.specs.Cycle.{advance, otherPhase, altSwitch};
 use state::Cycle;
 use state::deadline;
 use tables::constants::ALT_V_SETTLE_MS;
@@ -11,7 +11,7 @@ use tables::lookups::cycle;
 
 // The next phase of the alternating method, and when the host goes on.
 #[repr(C)]
-pub struct Turned {
+pub struct Switched {
     pub cycle: Cycle,
     pub deadline: u64,
 }
@@ -39,9 +39,10 @@ fn other_phase(phase: u8) -> u8
     if phase % 2 == 0 { phase + 1 } else { phase - 1 }
 }
 
-// The alternating method: the other row; the V row settles longer, and four results are dropped.
-pub fn alt_turn(before: Cycle, now: u64) -> Turned
-    ensures { λ r. ⌜ r ≡ altTurn before now ⌝ }
+// The alternating method: the other row; the V row settles longer, and its first four results are
+// dropped.
+pub fn alt_switch(before: Cycle, now: u64) -> Switched
+    ensures { λ r. ⌜ r ≡ altSwitch before now ⌝ }
 {
     let phase = other_phase(before.phase);
     let stat = cycle(phase);
@@ -51,13 +52,13 @@ pub fn alt_turn(before: Cycle, now: u64) -> Turned
     after.stat = stat;
     if phase % 2 == 0 {
         after.skip = ALT_V_SKIP;
-        return Turned {
+        return Switched {
             cycle: after,
             deadline: deadline(now, ALT_V_SETTLE_MS),
         };
     }
     after.skip = 0;
-    Turned {
+    Switched {
         cycle: after,
         deadline: deadline(now, SETTLE_MS),
     }

@@ -4,17 +4,17 @@ use mathlib.Core.Bool.{false}
 use Prim.Native.Nat.{ℕ, _+_, _/_, _%_, _<_}
 use native.Mathlib.Omega.{arith}
 use borrow.Author.Tests.{eqb-false}
-use Rattle.state.specs.declared.Part.{Part}
-use Rattle.state.specs.declared.Part.the-variants.{Power, Voltage, Current}
+use Rattle.state.specs.declared.Quantity.{Quantity}
+use Rattle.state.specs.declared.Quantity.the-variants.{Power, Voltage, Current}
 use Rattle.state.specs.Seen.{bitOf, hasSeen}
 
-pub positive : (part : Part) → 0 < bitOf part
+pub positive : (q : Quantity) → 0 < bitOf q
 unfolding bitOf
 positive Power = omega (arith)
 positive Voltage = omega (arith)
 positive Current = omega (arith)
 
-pub room : (seen : ℕ) (part : Part) → seen < 256 → hasSeen seen part ≡ false → seen + bitOf part < 256
+pub room : (seen : ℕ) (q : Quantity) → seen < 256 → hasSeen seen q ≡ false → seen + bitOf q < 256
 unfolding bitOf hasSeen
 room seen Power fits unset = omega (arith, fits, eqb-false (seen / 1 % 2) 1 unset)
 room seen Voltage fits unset = omega (arith, fits, eqb-false (seen / 2 % 2) 1 unset)

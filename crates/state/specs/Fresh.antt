@@ -1,4 +1,4 @@
--- `Pw::new` of the source: the meter just made. What the source keeps outside `Pw` is named; docs/DECISIONS.md lists the fields of the source that nothing in scope reads.
+-- `Pw::new` of the source: the meter just made. Three fields are not in the source's `Pw`: `t_poll` and `barred` are dmm.rs's, `used` is ours; docs/DECISIONS.md lists the fields of the source that nothing in scope reads.
 use mathlib.Core.Bool.{true, false}
 use lib.IntN.{pos}
 use lib.ListN.{replicate}
@@ -22,7 +22,7 @@ use Rattle.state.specs.declared.Comparator.{Comparator}
 use Rattle.state.specs.declared.Ring.{Ring}
 use Rattle.state.specs.declared.Pw.{Pw}
 
--- the source's `None` of a time
+-- no time: the source's `None`
 abbrev pub never : Stamp
 never = record { set = false; at = 0 }
 

@@ -1,5 +1,5 @@
-// The meter's state: `Pw` by value, made of structs that follow the data flow, under the source's
-// names. All are laid out as in C, so that a C host can keep one.
+// The meter's state: `Pw` by value, made of one struct for each group of fields that change together,
+// under the source's names. All are laid out as in C, so that a C host can keep one.
 ghost use mathlib.Core.Path.{_≡_};
 ghost use Rattle.state.specs.Fresh.{newPw};
 ghost use Rattle.state.specs.Counting.{elapsed, deadline, countUp};
@@ -45,9 +45,10 @@ pub struct Ranges {
     pub i_auto: bool,
 }
 
-// The phase, the results still to drop (`skip_y` those of the DC row's V), the results taken in this
-// phase of the alternating method, R34, and the parts measured since the last apply: 1 power, 2
-// voltage, 4 current.
+// The phase; the results still to drop (`skip_y` those of the DC row's voltage); the results taken in
+// this phase of the alternating method; `stat`, which is R34 where the row is the power row, and
+// elsewhere only CYCLE's entry for the phase; and the quantities marked as measured (1 power, 2
+// voltage, 4 current), of which an apply clears those that it does not keep.
 #[repr(C)]
 pub struct Cycle {
     pub phase: u8,
@@ -58,8 +59,8 @@ pub struct Cycle {
     pub seen: u8,
 }
 
-// The three parts of `seen`.
-pub enum Part {
+// The three bits of `seen`.
+pub enum Quantity {
     Power,
     Voltage,
     Current,
@@ -101,7 +102,8 @@ pub struct Settings {
     pub main: u8,
 }
 
-// The phase calibration and what it has found.
+// The phase step in force (`sph`), and the phase calibration: 0 off, 1 or 2 for its two rounds; the
+// powers counted in this round and their sum; the step and the mean of round 1; the result.
 #[repr(C)]
 pub struct PhaseCal {
     pub sph: i8,
@@ -156,7 +158,8 @@ pub struct Comparator {
 }
 
 // The sixteen latest conversions, the one of number n at n modulo 16: which result it was, whether it
-// was dropped, its codes, and the ms since the one before. `ring_k` is the next number.
+// was dropped, its codes, and the ms since the RMS and LPF result before it (0 for AD1). `ring_k` is
+// the next number, `t_res` the last RMS and LPF result's time.
 #[repr(C)]
 pub struct Ring {
     pub stat: [u8; 16],
@@ -168,8 +171,9 @@ pub struct Ring {
     pub t_res: u64,
 }
 
-// The whole meter. `barred` is 0 where nothing is barred, else the unit (1 mA, 2 uA) of a current
-// range that tripped; `over_t0` is since when the current is above its limit.
+// The whole meter. `barred` is 0 where nothing is barred, else the coarsest unit (1 mA, 2 uA) of a
+// current range that tripped: it and the finer one are barred. `over_t0` is since when the current is
+// above its limit.
 #[repr(C)]
 pub struct Pw {
     pub description: Description,
@@ -308,7 +312,8 @@ impl Pw {
         },
     };
 
-    // A meter with this description and these words, just made: off, and all else as the source has it.
+    // A meter with this description and these words, just made: the source's `Pw::new`, and beside it
+    // nothing barred, no frame yet, and no ready frame used.
     pub fn new(description: Description, calibration: Calibration) -> Pw
         ensures { λ r. ⌜ r ≡ newPw description calibration ⌝ }
     {
@@ -319,7 +324,7 @@ impl Pw {
     }
 }
 
-// The ms from `since` to `now`, none where the clock stands before `since`.
+// The ms from `since` to `now`, 0 where the clock stands before `since`.
 pub fn elapsed(now: u64, since: u64) -> u64
     ensures { λ r. ⌜ r ≡ elapsed now since ⌝ }
 {
@@ -345,40 +350,40 @@ pub fn count_up(n: u8) -> u8
     if n < 255 { n + 1 } else { n }
 }
 
-// The bit of `seen` that stands for a part.
-pub fn bit_of(part: Part) -> u8
-    ensures { λ r. ⌜ r ≡ bitOf part ⌝ }
+// The bit of `seen` that stands for a quantity.
+pub fn bit_of(q: Quantity) -> u8
+    ensures { λ r. ⌜ r ≡ bitOf q ⌝ }
 {
-    match part {
-        Part::Power => 1,
-        Part::Voltage => 2,
-        Part::Current => 4,
+    match q {
+        Quantity::Power => 1,
+        Quantity::Voltage => 2,
+        Quantity::Current => 4,
     }
 }
 
-// Whether a part was measured.
-pub fn has_seen(seen: u8, part: Part) -> bool
-    ensures { λ r. ⌜ r ≡ hasSeen seen part ⌝ }
+// Whether a quantity is marked as measured.
+pub fn has_seen(seen: u8, q: Quantity) -> bool
+    ensures { λ r. ⌜ r ≡ hasSeen seen q ⌝ }
 {
-    seen / bit_of(part) % 2 == 1
+    seen / bit_of(q) % 2 == 1
 }
 
-// The parts measured, once this one is too.
-pub fn also_seen(seen: u8, part: Part) -> u8
-    ensures { λ r. ⌜ r ≡ alsoSeen seen part ⌝ }
+// The marks, with this quantity's set.
+pub fn also_seen(seen: u8, q: Quantity) -> u8
+    ensures { λ r. ⌜ r ≡ alsoSeen seen q ⌝ }
 {
-    if has_seen(seen, part) {
+    if has_seen(seen, q) {
         return seen;
     }
-    seen + bit_of(part)
+    seen + bit_of(q)
 }
 
-// Whether voltage and current were measured.
+// Whether voltage and current are marked.
 pub fn both_seen(seen: u8) -> bool
     ensures { λ r. ⌜ r ≡ bothSeen seen ⌝ }
 {
-    if has_seen(seen, Part::Voltage) {
-        has_seen(seen, Part::Current)
+    if has_seen(seen, Quantity::Voltage) {
+        has_seen(seen, Quantity::Current)
     } else {
         false
     }

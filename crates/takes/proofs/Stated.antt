@@ -17,7 +17,7 @@ use Rattle.takes.specs.declared.scales.Instrument.{Instrument}
 use Rattle.takes.specs.declared.take.Measured.{Measured}
 use Rattle.takes.specs.declared.take.Taken.{Taken}
 use Rattle.takes.specs.Scales.{zeroX, zeroD, zeroY, rmsRoot}
-use Rattle.takes.specs.Smoothed.{xyParts, iParts, vParts, altVParts, dcVParts, dcIParts}
+use Rattle.takes.specs.Parts.{xyParts, iParts, vParts, altVParts, dcVParts, dcIParts}
 use Rattle.takes.specs.Take.{turnedDown, accepted, xyTooLarge, rootTooLarge, oneMore, phaseCounted, takeXy, takeXx, takeYy, take, takeAlt}
 
 -- ---- document 01: "XY is turned down when |RMS| > 2^36; XX and YY when the computed root exceeds 262,144"

@@ -1,4 +1,4 @@
 pub mod Scales
 pub mod Readings
-pub mod Smoothed
+pub mod Parts
 pub mod Take

@@ -19,11 +19,11 @@ use Rattle.takes.specs.Scales.{us, mvDiv, shunt, iScale, vScale, gI, gIl
 
 -- `sq * s_v`
 unfoldable pub acVolts : Float → ℕ → Float → Float
-acVolts root vr gain = root *f vScale vr gain
+acVolts root vr g = root *f vScale vr g
 
 -- `(lpf - zy) as f32 * s_v`
 unfoldable pub dcVolts : ℤ → ℤ → ℕ → Float → Float
-dcVolts lpf zero vr gain = codeLess lpf zero *f vScale vr gain
+dcVolts lpf zero vr g = codeLess lpf zero *f vScale vr g
 
 -- `rms as f32 * s_i * g_i * s_v`
 unfoldable pub power : Instrument → Ranges → ℤ → Float

@@ -16,13 +16,11 @@ use Rattle.tables.specs.declared.calibration.Calibration.{Calibration}
 use Rattle.tables.specs.declared.description.Description.{Description}
 use Rattle.tables.specs.Calibration.{factor}
 use Rattle.tables.specs.Gain.{vGain}
+use Rattle.figures.specs.Tally.{milli}
 use Rattle.state.specs.declared.Corrections.{Corrections}
 use Rattle.takes.specs.declared.scales.Instrument.{Instrument}
 
--- 1e-3 and 1e-6
-abbrev pub milli : Float
-milli = ofBits binary32 0x3a83_126f
-
+-- 1e-6; 1e-3 is figures' `milli`
 abbrev pub micro : Float
 micro = ofBits binary32 0x3586_37bd
 
@@ -41,9 +39,9 @@ shunt d ik = getD (d .shunt) (iuIr ik .iu) nan
 unfoldable pub iScale : Description → ℕ → Float
 iScale d ik = code /f (entryAt nan shuntOhm (iuIr ik .iu) *f mvDiv d ik)
 
--- `s_v`: `CODE * KV[vr] * gain`
+-- `s_v`: `CODE * KV[vr] * v_gain(vr)`, at a gain g
 unfoldable pub vScale : ℕ → Float → Float
-vScale vr gain = code *f entryAt nan kv vr *f gain
+vScale vr g = code *f entryAt nan kv vr *f g
 
 -- `pw.v_gain(vr)`
 unfoldable pub gain : Instrument → ℕ → Float

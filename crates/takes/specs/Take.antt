@@ -8,7 +8,7 @@ use lib.Ieee.{Float, binary32, lt, ofBits}
 use Rattle.numbers.specs.Binary32.{_+f_, _*f_, _/f_, zeroF}
 use Rattle.codes.specs.declared.Codes.{Codes}
 use Rattle.tables.specs.Constants.{r34Xy, r34Xx, r34Yy}
-use Rattle.state.specs.declared.Part.the-variants.{Power, Voltage, Current}
+use Rattle.state.specs.declared.Quantity.the-variants.{Power, Voltage, Current}
 use Rattle.state.specs.declared.Parts.{Parts}
 use Rattle.state.specs.declared.PhaseCal.{PhaseCal}
 use Rattle.state.specs.declared.Ranges.{Ranges}
@@ -19,7 +19,7 @@ use Rattle.takes.specs.declared.take.Measured.{Measured}
 use Rattle.takes.specs.declared.take.Taken.{Taken}
 use Rattle.takes.specs.Scales.{rmsRoot, gain, zeroY}
 use Rattle.takes.specs.Readings.{acVolts, dcVolts, power, acAmps, dcAmps, altVolts, altAmps, altDcAmps, ad1Amps}
-use Rattle.takes.specs.Smoothed.{xyParts, iParts, vParts, altVParts, dcVParts, dcIParts}
+use Rattle.takes.specs.Parts.{xyParts, iParts, vParts, altVParts, dcVParts, dcIParts}
 
 -- turned down: nothing changes
 abbrev pub turnedDown : Measured → Taken

@@ -1,12 +1,12 @@
-// The smoothed values after a result: stored as it is where it is the first of its kind since the
-// last apply, else by `ema`. Each function changes only the parts that it names.
+// The smoothed values after a result: a value is stored as it is while its quantity is not marked in
+// `seen`, else smoothed by `ema`. Each function changes only the parts that it names.
 ghost use mathlib.Core.Path.{_≡_};
-ghost use Rattle.takes.specs.Smoothed.{smoothed, smoothedPower, xyParts, iParts, vParts, altVParts, dcVParts, dcIParts};
+ghost use Rattle.takes.specs.Parts.{smoothed, smoothedPower, xyParts, iParts, vParts, altVParts, dcVParts, dcIParts};
 use crate::scales::i_win;
 use figures::smoothing::ema;
 use figures::smoothing::ema_rel;
-use state::Part;
 use state::Parts;
+use state::Quantity;
 use state::Ranges;
 use state::has_seen;
 use tables::lookups::acv_win;
@@ -37,8 +37,8 @@ fn smoothed_power(later: bool, ranges: Ranges, x: f32, y: f32) -> f32
 pub(crate) fn xy_parts(ranges: Ranges, seen: u8, p: f32, i_dc: f32, parts: Parts) -> Parts
     ensures { λ r. ⌜ r ≡ xyParts ranges seen p «i_dc» parts ⌝ }
 {
-    let power = smoothed_power(has_seen(seen, Part::Power), ranges, p, parts.p_ac);
-    let later = has_seen(seen, Part::Current);
+    let power = smoothed_power(has_seen(seen, Quantity::Power), ranges, p, parts.p_ac);
+    let later = has_seen(seen, Quantity::Current);
     let current = smoothed(later, i_win(ranges.ik), 0.35, i_dc, parts.i_dc);
     let mut after = parts;
     after.p_ac = power;
@@ -50,7 +50,7 @@ pub(crate) fn xy_parts(ranges: Ranges, seen: u8, p: f32, i_dc: f32, parts: Parts
 pub(crate) fn i_parts(ik: u8, seen: u8, i_ac: f32, i_dc: f32, parts: Parts) -> Parts
     ensures { λ r. ⌜ r ≡ iParts ik seen «i_ac» «i_dc» parts ⌝ }
 {
-    let later = has_seen(seen, Part::Current);
+    let later = has_seen(seen, Quantity::Current);
     let win = i_win(ik);
     let ac = smoothed(later, win, 0.15, i_ac, parts.i_ac);
     let dc = smoothed(later, win, 0.35, i_dc, parts.i_dc);
@@ -64,7 +64,7 @@ pub(crate) fn i_parts(ik: u8, seen: u8, i_ac: f32, i_dc: f32, parts: Parts) -> P
 pub(crate) fn v_parts(vr: u8, seen: u8, v_ac: f32, v_dc: f32, parts: Parts) -> Parts
     ensures { λ r. ⌜ r ≡ vParts vr seen «v_ac» «v_dc» parts ⌝ }
 {
-    let later = has_seen(seen, Part::Voltage);
+    let later = has_seen(seen, Quantity::Voltage);
     let win = acv_win(vr);
     let ac = smoothed(later, win, 0.25, v_ac, parts.v_ac);
     let dc = smoothed(later, win, 0.25, v_dc, parts.v_dc);
@@ -74,11 +74,11 @@ pub(crate) fn v_parts(vr: u8, seen: u8, v_ac: f32, v_dc: f32, parts: Parts) -> P
     after
 }
 
-// After the alternating method's voltage, which has no DC part.
+// After the alternating method's voltage: the AC part; the DC part becomes 0.
 pub(crate) fn alt_v_parts(vr: u8, seen: u8, v_ac: f32, parts: Parts) -> Parts
     ensures { λ r. ⌜ r ≡ altVParts vr seen «v_ac» parts ⌝ }
 {
-    let later = has_seen(seen, Part::Voltage);
+    let later = has_seen(seen, Quantity::Voltage);
     let ac = smoothed(later, acv_win(vr), 0.25, v_ac, parts.v_ac);
     let mut after = parts;
     after.v_ac = ac;
@@ -86,11 +86,11 @@ pub(crate) fn alt_v_parts(vr: u8, seen: u8, v_ac: f32, parts: Parts) -> Parts
     after
 }
 
-// After the DC row's voltage. Its AC volts stand apart.
+// After the DC row's voltage: the DC part, and its AC volts in `vac_dc`; the AC part becomes 0.
 pub(crate) fn dc_v_parts(vr: u8, seen: u8, v_dc: f32, vac_dc: f32, parts: Parts) -> Parts
     ensures { λ r. ⌜ r ≡ dcVParts vr seen «v_dc» «vac_dc» parts ⌝ }
 {
-    let later = has_seen(seen, Part::Voltage);
+    let later = has_seen(seen, Quantity::Voltage);
     let win = acv_win(vr);
     let dc = smoothed(later, win, 0.5, v_dc, parts.v_dc);
     let ac = smoothed(later, win, 0.25, vac_dc, parts.vac_dc);
@@ -101,11 +101,11 @@ pub(crate) fn dc_v_parts(vr: u8, seen: u8, v_dc: f32, vac_dc: f32, parts: Parts)
     after
 }
 
-// After the DC row's current, which has no AC part and gives no AC power.
+// After the DC row's current: the DC part; the AC part and the AC power become 0.
 pub(crate) fn dc_i_parts(ik: u8, seen: u8, i_dc: f32, parts: Parts) -> Parts
     ensures { λ r. ⌜ r ≡ dcIParts ik seen «i_dc» parts ⌝ }
 {
-    let later = has_seen(seen, Part::Current);
+    let later = has_seen(seen, Quantity::Current);
     let dc = smoothed(later, i_win(ik), 0.5, i_dc, parts.i_dc);
     let mut after = parts;
     after.i_dc = dc;

@@ -1,5 +1,5 @@
-// What codes are multiplied by, and the zeros that are taken off them. Zeros and range limits go by
-// current range, words and windows by calibration index, shunts by unit, dividers by gain index.
+// What codes are multiplied by, and the zeros that are taken off them. Zeros go by current range,
+// words and windows by calibration index, shunts by unit, dividers by gain index.
 ghost use mathlib.Core.Path.{_≡_};
 ghost use Rattle.takes.specs.Scales.{us, mvDiv, shunt, iScale, vScale, gI, gIl, iWin, zeroX, zeroD, zeroY, codeLess, rmsRoot, gain};
 use state::Corrections;
@@ -15,7 +15,7 @@ use tables::lookups::shunt_ohm;
 use tables::ranges::cal_index;
 use tables::ranges::iu_ir;
 
-// What a reading is worked out with.
+// What a reading is worked out with: description, calibration words, and stored corrections.
 #[repr(C)]
 pub struct Instrument {
     pub description: Description,

@@ -21,9 +21,9 @@ use crate::scales::gain;
 use crate::scales::rms_root;
 use crate::scales::zero_y;
 use codes::Codes;
-use state::Part;
 use state::Parts;
 use state::PhaseCal;
+use state::Quantity;
 use state::Ranges;
 use state::also_seen;
 use state::both_seen;
@@ -64,7 +64,8 @@ fn root_too_large(root: f32) -> bool
     root > 262144.0
 }
 
-// The phase calibration's sum after a power p, while it runs and voltage and current are measured.
+// The phase calibration's sum and count after a power p: one more while it runs, voltage and current
+// are marked, and their AC parts' product is above zero.
 fn phase_counted(before: PhaseCal, p: f32, seen: u8, parts: Parts) -> PhaseCal
     ensures { λ r. ⌜ r ≡ phaseCounted before p seen parts ⌝ }
 {
@@ -98,7 +99,7 @@ fn take_xy(with: Instrument, ranges: Ranges, codes: Codes, before: Measured) -> 
     let p = power(with, ranges, codes.rms);
     let i_dc = dc_amps(with, ranges.ik, codes.lpf);
     let parts = xy_parts(ranges, before.seen, p, i_dc, before.parts);
-    let seen = also_seen(before.seen, Part::Power);
+    let seen = also_seen(before.seen, Quantity::Power);
     let phase_cal = phase_counted(before.phase_cal, p, seen, parts);
     Taken {
         accepted: true,
@@ -124,7 +125,7 @@ fn take_xx(with: Instrument, ik: u8, codes: Codes, before: Measured) -> Taken
     let i_ac = ac_amps(with.description, with.calibration, ik, root);
     let i_dc = dc_amps(with, ik, codes.lpf);
     let parts = i_parts(ik, before.seen, i_ac, i_dc, before.parts);
-    let seen = also_seen(before.seen, Part::Current);
+    let seen = also_seen(before.seen, Quantity::Current);
     let phase_cal = before.phase_cal;
     Taken {
         accepted: true,
@@ -151,7 +152,7 @@ fn take_yy(with: Instrument, vr: u8, codes: Codes, before: Measured) -> Taken
     let v_ac = ac_volts(root, vr, g);
     let v_dc = dc_volts(codes.lpf, zero_y(with.corrections), vr, g);
     let parts = v_parts(vr, before.seen, v_ac, v_dc, before.parts);
-    let seen = also_seen(before.seen, Part::Voltage);
+    let seen = also_seen(before.seen, Quantity::Voltage);
     let phase_cal = before.phase_cal;
     Taken {
         accepted: true,
@@ -184,7 +185,7 @@ fn take_alt_v(with: Instrument, vr: u8, root: f32, before: Measured) -> Measured
 {
     let v_ac = alt_volts(with.calibration, vr, root);
     let parts = alt_v_parts(vr, before.seen, v_ac, before.parts);
-    let seen = also_seen(before.seen, Part::Voltage);
+    let seen = also_seen(before.seen, Quantity::Voltage);
     let phase_cal = before.phase_cal;
     Measured {
         parts,
@@ -200,7 +201,7 @@ fn take_alt_i(with: Instrument, ik: u8, root: f32, lpf: i32, before: Measured) -
     let i_ac = alt_amps(with.description, with.calibration, ik, root);
     let i_dc = alt_dc_amps(with.description, with.calibration, ik, lpf);
     let parts = i_parts(ik, before.seen, i_ac, i_dc, before.parts);
-    let seen = also_seen(before.seen, Part::Current);
+    let seen = also_seen(before.seen, Quantity::Current);
     let phase_cal = before.phase_cal;
     Measured {
         parts,
@@ -248,7 +249,7 @@ pub fn dc_v_taken(with: Instrument, vr: u8, codes: Codes, before: Measured) -> M
     let v_dc = dc_volts(codes.lpf, zero_y(with.corrections), vr, g);
     let vac_dc = ac_volts(rms_root(codes.rms), vr, g);
     let parts = dc_v_parts(vr, before.seen, v_dc, vac_dc, before.parts);
-    let seen = also_seen(before.seen, Part::Voltage);
+    let seen = also_seen(before.seen, Quantity::Voltage);
     let phase_cal = before.phase_cal;
     Measured {
         parts,
@@ -257,12 +258,12 @@ pub fn dc_v_taken(with: Instrument, vr: u8, codes: Codes, before: Measured) -> M
     }
 }
 
-// With voltage and current the power is measured too.
+// With voltage and current marked the power is marked too.
 fn seen_with_power(seen: u8) -> u8
     ensures { λ r. ⌜ r ≡ seenWithPower seen ⌝ }
 {
     if both_seen(seen) {
-        return also_seen(seen, Part::Power);
+        return also_seen(seen, Quantity::Power);
     }
     seen
 }
@@ -273,7 +274,7 @@ pub fn dc_i_taken(with: Instrument, ik: u8, codes: Codes, before: Measured) -> M
 {
     let i_dc = ad1_amps(with, ik, codes.ad1);
     let parts = dc_i_parts(ik, before.seen, i_dc, before.parts);
-    let seen = seen_with_power(also_seen(before.seen, Part::Current));
+    let seen = seen_with_power(also_seen(before.seen, Quantity::Current));
     let phase_cal = before.phase_cal;
     Measured {
         parts,

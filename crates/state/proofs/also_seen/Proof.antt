@@ -19,7 +19,7 @@ bit-of-requires c κs = search needs
 
 add-result : tie.Need-add-result
 add-result c = let s = c .before .before .before .args .seen in
-    let p = c .before .before .before .args .part in
+    let p = c .before .before .before .args .q in
     omega (arith, c .bit-of .ensures, room s p (c .before .before .before .fits .seen .fits) (sym (c .before .before .has-seen .ensures) ∙ c .before .if1 .left))
 
 returns-2 : tie.Need-returns-2

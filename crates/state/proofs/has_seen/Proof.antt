@@ -10,7 +10,7 @@ bit-of-requires : tie.Need-bit-of-requires
 bit-of-requires c κs = search needs
 
 div-result : tie.Need-div-result
-div-result c = omega (arith, c .bit-of .ensures, positive (c .before .args .part))
+div-result c = omega (arith, c .bit-of .ensures, positive (c .before .args .q))
 
 returns : tie.Need-returns
 unfolding hasSeen

@@ -16,14 +16,14 @@ unfolding altNext
 returns c = let if1 = simp (c .before .before .before .count-up .ensures) at (c .before .if1 .taken) in
     simp (c .goes-on .ensures, c .before .before .before .count-up .ensures, lt-ltb _ _ if1)
 
-alt-full-requires : tie.Need-alt-full-requires
-alt-full-requires c κs = search needs
+alt-phase-done-requires : tie.Need-alt-phase-done-requires
+alt-phase-done-requires c κs = search needs
 
 returns-2 : tie.Need-returns-2
 unfolding altNext
 returns-2 c = let if1 = simp (c .before .before .before .count-up .ensures) at (c .before .if1 .left) in
-    simp (c .alt-full .ensures, c .before .before .before .count-up .ensures, le-ltb _ _ if1)
+    simp (c .alt-phase-done .ensures, c .before .before .before .count-up .ensures, le-ltb _ _ if1)
 
 pub alt-next-spec : {M : Type 1} → statement M
 alt-next-spec =
-    tie.close (tie.spec count-up-requires goes-on-requires returns alt-full-requires returns-2)
+    tie.close (tie.spec count-up-requires goes-on-requires returns alt-phase-done-requires returns-2)

@@ -1,6 +1,6 @@
 -- By the window, and where there is none by the volts.
 use borrow.Author.Needs.{needs}
-use Rattle.paths.specs.Select.{chosen}
+use Rattle.paths.specs.Comparator.{chosen}
 use Rattle.paths.proofs.comparator.chosen.Statement.{statement}
 use Rattle.paths.proofs.comparator.chosen.Tie as tie
 

@@ -1,6 +1,6 @@
 -- Whether voltage and current are measured.
 use borrow.Author.Needs.{needs}
-use Rattle.paths.specs.Select.{cmpSelect}
+use Rattle.paths.specs.Comparator.{cmpSelect}
 use Rattle.paths.proofs.comparator.cmp_select.Statement.{statement}
 use Rattle.paths.proofs.comparator.cmp_select.Tie as tie
 

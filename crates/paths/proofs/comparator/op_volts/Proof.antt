@@ -1,6 +1,6 @@
 -- The callees, in the order of the formula.
 use borrow.Author.Needs.{needs}
-use Rattle.paths.specs.Select.{opVolts}
+use Rattle.paths.specs.Comparator.{opVolts}
 use Rattle.paths.proofs.comparator.op_volts.Statement.{statement}
 use Rattle.paths.proofs.comparator.op_volts.Tie as tie
 

@@ -1,6 +1,6 @@
 -- The callees, in the order of the formula.
 use borrow.Author.Needs.{needs}
-use Rattle.paths.specs.Select.{tapScale}
+use Rattle.paths.specs.Comparator.{tapScale}
 use Rattle.paths.proofs.comparator.tap_scale.Statement.{statement}
 use Rattle.paths.proofs.comparator.tap_scale.Tie as tie
 

@@ -30,13 +30,13 @@ unfolding frame
 returns-3 c = let if2 = simp (c .before .before .before .holds-rms-lpf .ensures) at (c .before .before .if2 .taken) in
     simp (c .b-frame .ensures, c .before .if3 .left, if2, c .before .before .before .before .if1 .left)
 
-quiet-requires : tie.Need-quiet-requires
-quiet-requires c κs = search needs
+ends-requires : tie.Need-ends-requires
+ends-requires c κs = search needs
 
 returns-4 : tie.Need-returns-4
 unfolding frame
 returns-4 c = let if2 = simp (c .before .before .holds-rms-lpf .ensures) at (c .before .if2 .left) in
-    simp (c .quiet .ensures, if2, c .before .before .before .if1 .left)
+    simp (c .ends .ensures, if2, c .before .before .before .if1 .left)
 
 pub frame-spec : {M : Type 1} → statement M
 frame-spec =
@@ -49,5 +49,5 @@ frame-spec =
     returns-2
     b-frame-requires
     returns-3
-    quiet-requires
+    ends-requires
     returns-4)

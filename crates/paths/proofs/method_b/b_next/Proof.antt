@@ -26,13 +26,13 @@ unfolding bNext
 returns-2 c = let if2 = simp (c .before .before .before .before .before .b-autorange .ensures) at (c .before .if2 .taken) in
     simp (c .ranged-to .ensures, c .before .before .before .before .advance .ensures, c .before .before .before .before .before .b-autorange .ensures, if2, ne-eqb _ _ (c .before .before .if1 .left))
 
-b-on-requires : tie.Need-b-on-requires
-b-on-requires c κs = search needs
+b-unranged-requires : tie.Need-b-unranged-requires
+b-unranged-requires c κs = search needs
 
 returns-3 : tie.Need-returns-3
 unfolding bNext
 returns-3 c = let if2 = simp (c .before .before .before .before .before .b-autorange .ensures) at (c .before .if2 .left) in
-    simp (c .b-on .ensures, c .before .before .before .before .advance .ensures, c .before .before .before .before .before .b-autorange .ensures, if2, ne-eqb _ _ (c .before .before .if1 .left))
+    simp (c .b-unranged .ensures, c .before .before .before .before .advance .ensures, c .before .before .before .before .before .b-autorange .ensures, if2, ne-eqb _ _ (c .before .before .if1 .left))
 
 pub b-next-spec : {M : Type 1} → statement M
 b-next-spec =
@@ -44,5 +44,5 @@ b-next-spec =
     returns
     ranged-to-requires
     returns-2
-    b-on-requires
+    b-unranged-requires
     returns-3)

@@ -5,7 +5,7 @@ use native.Mathlib.Omega.{arith}
 use borrow.Author.Needs.{needs}
 use borrow.Author.Tests.{lt-ltb, le-ltb}
 use Rattle.tables.specs.Bounds.{atMost}
-use Rattle.paths.specs.Noted.{heldDt}
+use Rattle.paths.specs.Ring.{heldDt}
 use Rattle.paths.proofs.ring.held_dt.Statement.{statement}
 use Rattle.paths.proofs.ring.held_dt.Tie as tie
 

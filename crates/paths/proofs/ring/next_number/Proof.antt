@@ -1,7 +1,7 @@
 -- The two sides of the test.
 use native.Mathlib.Omega.{arith}
 use borrow.Author.Needs.{needs}
-use Rattle.paths.specs.Noted.{nextNumber}
+use Rattle.paths.specs.Ring.{nextNumber}
 use Rattle.paths.proofs.ring.next_number.Statement.{statement}
 use Rattle.paths.proofs.ring.next_number.Tie as tie
 

@@ -2,7 +2,7 @@
 use borrow.Author.Needs.{needs}
 use mir.Syntax.{w32}
 use mir.ValLaws.{toZ-ofZ}
-use Rattle.paths.specs.Noted.{noteCurrent}
+use Rattle.paths.specs.Ring.{noteCurrent}
 use Rattle.paths.proofs.ring.note_current.Statement.{statement}
 use Rattle.paths.proofs.ring.note_current.Tie as tie
 

@@ -2,7 +2,7 @@
 use borrow.Author.Needs.{needs}
 use mir.Syntax.{w32, w64}
 use mir.ValLaws.{toZ-ofZ}
-use Rattle.paths.specs.Noted.{noteResult}
+use Rattle.paths.specs.Ring.{noteResult}
 use Rattle.paths.proofs.ring.note_result.Statement.{statement}
 use Rattle.paths.proofs.ring.note_result.Tie as tie
 

@@ -2,7 +2,7 @@
 use borrow.Author.Needs.{needs}
 use mir.Syntax.{w32, w64}
 use mir.ValLaws.{toZ-ofZ}
-use Rattle.paths.specs.Noted.{noted}
+use Rattle.paths.specs.Ring.{noted}
 use Rattle.paths.proofs.ring.noted.Statement.{statement}
 use Rattle.paths.proofs.ring.noted.Tie as tie
 

@@ -1,6 +1,6 @@
 -- The callees, each part by its own.
 use borrow.Author.Needs.{needs}
-use Rattle.takes.specs.Smoothed.{dcIParts}
+use Rattle.takes.specs.Parts.{dcIParts}
 use Rattle.takes.proofs.parts.dc_i_parts.Statement.{statement}
 use Rattle.takes.proofs.parts.dc_i_parts.Tie as tie
 

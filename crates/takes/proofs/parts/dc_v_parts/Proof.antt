@@ -1,6 +1,6 @@
 -- The callees, each part by its own.
 use borrow.Author.Needs.{needs}
-use Rattle.takes.specs.Smoothed.{dcVParts}
+use Rattle.takes.specs.Parts.{dcVParts}
 use Rattle.takes.proofs.parts.dc_v_parts.Statement.{statement}
 use Rattle.takes.proofs.parts.dc_v_parts.Tie as tie
 

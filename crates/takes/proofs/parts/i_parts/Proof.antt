@@ -1,6 +1,6 @@
 -- The callees, each part by its own.
 use borrow.Author.Needs.{needs}
-use Rattle.takes.specs.Smoothed.{iParts}
+use Rattle.takes.specs.Parts.{iParts}
 use Rattle.takes.proofs.parts.i_parts.Statement.{statement}
 use Rattle.takes.proofs.parts.i_parts.Tie as tie
 

@@ -1,6 +1,6 @@
 -- Whether there was one before.
 use borrow.Author.Needs.{needs}
-use Rattle.takes.specs.Smoothed.{smoothed}
+use Rattle.takes.specs.Parts.{smoothed}
 use Rattle.takes.proofs.parts.smoothed.Statement.{statement}
 use Rattle.takes.proofs.parts.smoothed.Tie as tie
 

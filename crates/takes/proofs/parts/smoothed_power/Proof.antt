@@ -1,6 +1,6 @@
 -- Whether there was one before.
 use borrow.Author.Needs.{needs}
-use Rattle.takes.specs.Smoothed.{smoothedPower}
+use Rattle.takes.specs.Parts.{smoothedPower}
 use Rattle.takes.proofs.parts.smoothed_power.Statement.{statement}
 use Rattle.takes.proofs.parts.smoothed_power.Tie as tie
 

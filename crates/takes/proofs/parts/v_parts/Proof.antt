@@ -1,6 +1,6 @@
 -- The callees, each part by its own.
 use borrow.Author.Needs.{needs}
-use Rattle.takes.specs.Smoothed.{vParts}
+use Rattle.takes.specs.Parts.{vParts}
 use Rattle.takes.proofs.parts.v_parts.Statement.{statement}
 use Rattle.takes.proofs.parts.v_parts.Tie as tie
 

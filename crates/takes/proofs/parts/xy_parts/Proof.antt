@@ -1,6 +1,6 @@
 -- The callees, each part by its own.
 use borrow.Author.Needs.{needs}
-use Rattle.takes.specs.Smoothed.{xyParts}
+use Rattle.takes.specs.Parts.{xyParts}
 use Rattle.takes.proofs.parts.xy_parts.Statement.{statement}
 use Rattle.takes.proofs.parts.xy_parts.Tie as tie
 

@@ -1,4 +1,4 @@
--- `pw_cmp_select` of the source: what the frequency counter listens to.
+-- `pw_cmp_select` of the source: the frequency counter's source and window. The counter itself is left out.
 use mathlib.Core.Bool.{true, false, cond}
 use Prim.Native.Nat.{ℕ}
 use lib.Ieee.{Float, nan, binary32, le, ofBits}
@@ -29,16 +29,16 @@ opVolts d ik iAc = iAc *f entryAt nan shuntOhm (iuIr ik .iu) *f mvDiv d ik
 abbrev pub leastOp : Float
 leastOp = ofBits binary32 0x3ccc_cccd
 
-abbrev pub listening : ℕ → ℕ → Comparator → Comparator
-listening r20 r21 c = record { r20 = r20; r21 = r21; «f_ok» = true; «cmp_vr» = c .«cmp_vr» }
+abbrev pub withFrequency : ℕ → ℕ → Comparator → Comparator
+withFrequency r20 r21 c = record { r20 = r20; r21 = r21; «f_ok» = true; «cmp_vr» = c .«cmp_vr» }
 
-abbrev pub silent : Comparator → Comparator
-silent c = record { r20 = c .r20; r21 = c .r21; «f_ok» = false; «cmp_vr» = c .«cmp_vr» }
+abbrev pub noFrequency : Comparator → Comparator
+noFrequency c = record { r20 = c .r20; r21 = c .r21; «f_ok» = false; «cmp_vr» = c .«cmp_vr» }
 
 -- the V tap with its window; else the current on PB4 where its AC part is at least 25 mV; else no frequency
 unfoldable pub chosen : Window → Float → Comparator → Comparator
-chosen (R21 w) op c = listening r20Sense w c
-chosen NoWindow op c = cond (le leastOp op) (listening r20Pb4 r21Default c) (silent c)
+chosen (R21 w) op c = withFrequency r20Sense w c
+chosen NoWindow op c = cond (le leastOp op) (withFrequency r20Pb4 r21Default c) (noFrequency c)
 
 -- only once voltage and current are measured
 unfoldable pub cmpSelect : Instrument → Ranges → ℕ → Parts → Comparator → Comparator

@@ -1,4 +1,4 @@
--- The smoothed values after a result. Document 01: "Smoothing is `ema`". The source stores the first result since the last apply (`first(seen, bit)`) and smooths the later ones.
+-- The smoothed values after a result. Document 01: "Smoothing is `ema`". The source stores a value as it is while its quantity is not marked in `seen` (`first(seen, bit)`), else it smooths it.
 use mathlib.Core.Bool.{Bool, cond}
 use Prim.Native.Nat.{ℕ}
 use lib.Ieee.{Float, nan, binary32, ofBits}
@@ -7,7 +7,7 @@ use Rattle.tables.specs.Bounds.{entryAt}
 use Rattle.tables.specs.Constants.{vLim, iLim}
 use Rattle.tables.specs.Decided.{acvWin}
 use Rattle.figures.specs.Smoothing.{ema, emaRel}
-use Rattle.state.specs.declared.Part.the-variants.{Power, Voltage, Current}
+use Rattle.state.specs.declared.Quantity.the-variants.{Power, Voltage, Current}
 use Rattle.state.specs.declared.Parts.{Parts}
 use Rattle.state.specs.declared.Ranges.{Ranges}
 use Rattle.state.specs.Seen.{hasSeen}
@@ -73,7 +73,7 @@ vParts vr seen vAc vDc p =
       «vac_dc» = p .«vac_dc»;
     }
 
--- the alternating method's voltage (`pw_take_alt`): no DC part
+-- the alternating method's voltage (`pw_take_alt`): the DC part becomes 0
 unfoldable pub altVParts : ℕ → ℕ → Float → Parts → Parts
 altVParts vr seen vAc p =
     record {
@@ -85,7 +85,7 @@ altVParts vr seen vAc p =
       «vac_dc» = p .«vac_dc»;
     }
 
--- the DC row's voltage (`pw_poll_dc`): DC with 0.5, its AC volts apart with 0.25
+-- the DC row's voltage (`pw_poll_dc`): DC with 0.5, its AC volts apart in `vac_dc` with 0.25; the AC part becomes 0
 unfoldable pub dcVParts : ℕ → ℕ → Float → Float → Parts → Parts
 dcVParts vr seen vDc vacDc p =
     record {
@@ -97,7 +97,7 @@ dcVParts vr seen vDc vacDc p =
       «vac_dc» = smoothed (hasSeen seen Voltage) (entryAt nan acvWin vr) a25 vacDc (p .«vac_dc»);
     }
 
--- the DC row's current (`pw_poll_dc`): no AC part, no AC power
+-- the DC row's current (`pw_poll_dc`): the AC part and the AC power become 0
 unfoldable pub dcIParts : ℕ → ℕ → Float → Parts → Parts
 dcIParts ik seen iDc p =
     record {

@@ -1,4 +1,4 @@
--- The ring. Document 01: "The ring notes it all the same: sixteen latest conversions are kept with the meter, by `ring_k` modulo 16."
+-- The ring. Document 01, of a result that is turned down: "The ring notes it all the same: sixteen latest conversions are kept with the meter, by `ring_k` modulo 16."
 use mathlib.Core.Bool.{Bool, false}
 use Prim.Native.Nat.{ℕ, _+_, _%_, _^_}
 use lib.IntN.{ℤ, pos}

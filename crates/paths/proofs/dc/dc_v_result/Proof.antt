@@ -1,8 +1,8 @@
 -- By the mark.
 use borrow.Author.Needs.{needs}
-use Rattle.paths.specs.Dc.{dcVOn}
-use Rattle.paths.proofs.dc.dc_v_on.Statement.{statement}
-use Rattle.paths.proofs.dc.dc_v_on.Tie as tie
+use Rattle.paths.specs.Dc.{dcVResult}
+use Rattle.paths.proofs.dc.dc_v_result.Statement.{statement}
+use Rattle.paths.proofs.dc.dc_v_result.Tie as tie
 
 measured-in-requires : tie.Need-measured-in-requires
 measured-in-requires c κs = search needs
@@ -23,20 +23,20 @@ ranged-to-requires : tie.Need-ranged-to-requires
 ranged-to-requires c κs = search needs
 
 returns : tie.Need-returns
-unfolding dcVOn
+unfolding dcVResult
 returns c = let if1 = simp (c .before .before .autorange-v .ensures, c .before .before .before .ranging-in .ensures, c .before .before .before .before .with-measured .ensures, c .before .before .before .before .before .dc-v-taken .ensures, c .before .before .before .before .before .before .measured-in .ensures) at (c .before .if1 .taken) in
     simp (c .ranged-to .ensures, c .before .before .autorange-v .ensures, c .before .before .before .ranging-in .ensures, c .before .before .before .before .with-measured .ensures, c .before .before .before .before .before .dc-v-taken .ensures, c .before .before .before .before .before .before .measured-in .ensures, if1)
 
-quiet-requires : tie.Need-quiet-requires
-quiet-requires c κs = search needs
+ends-requires : tie.Need-ends-requires
+ends-requires c κs = search needs
 
 returns-2 : tie.Need-returns-2
-unfolding dcVOn
+unfolding dcVResult
 returns-2 c = let if1 = simp (c .before .before .autorange-v .ensures, c .before .before .before .ranging-in .ensures, c .before .before .before .before .with-measured .ensures, c .before .before .before .before .before .dc-v-taken .ensures, c .before .before .before .before .before .before .measured-in .ensures) at (c .before .if1 .left) in
-    simp (c .quiet .ensures, c .before .before .autorange-v .ensures, c .before .before .before .ranging-in .ensures, c .before .before .before .before .with-measured .ensures, c .before .before .before .before .before .dc-v-taken .ensures, c .before .before .before .before .before .before .measured-in .ensures, if1)
+    simp (c .ends .ensures, c .before .before .autorange-v .ensures, c .before .before .before .ranging-in .ensures, c .before .before .before .before .with-measured .ensures, c .before .before .before .before .before .dc-v-taken .ensures, c .before .before .before .before .before .before .measured-in .ensures, if1)
 
-pub dc-v-on-spec : {M : Type 1} → statement M
-dc-v-on-spec =
+pub dc-v-result-spec : {M : Type 1} → statement M
+dc-v-result-spec =
     tie.close
     (tie.spec
     measured-in-requires
@@ -46,5 +46,5 @@ dc-v-on-spec =
     autorange-v-requires
     ranged-to-requires
     returns
-    quiet-requires
+    ends-requires
     returns-2)
