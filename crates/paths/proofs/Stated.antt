@@ -1,19 +1,23 @@
--- What follows from the definitions: the ring notes every result, a result switched down changes nothing else, a V range that changes ends the DC path, and a frame leaves the automatic marks.
+-- What follows from the definitions: the ring notes every result, a result switched down changes nothing else, a V range that changes ends the DC path, a frame leaves the automatic marks, and ranges within the tables stay so.
 use mathlib.Core.Path.{_≡_, refl, _∙_}
 use mathlib.Core.Bool.{Bool, true, false, cond}
-use Prim.Native.Nat.{ℕ, _+_, _%_}
+use Prim.Native.Nat.{ℕ, _+_, _%_, _≤_}
 use lib.Dec.{eqb, ltb}
 use Rattle.codes.specs.declared.Codes.{Codes}
 use Rattle.codes.specs.Flags.{holdsAd1, holdsRmsLpf}
 use Rattle.tables.specs.Constants.{r34Xy, r34Yy, altN}
+use Rattle.tables.specs.declared.description.Description.{Description}
 use Rattle.state.specs.declared.Mode.{Mode}
+use Rattle.state.specs.declared.Parts.{Parts}
+use Rattle.state.specs.declared.Pw.{Pw}
 use Rattle.state.specs.declared.Ranges.{Ranges}
 use Rattle.state.specs.Counting.{countUp}
 use Rattle.takes.specs.declared.scales.Instrument.{Instrument}
 use Rattle.takes.specs.Take.{take, takeAlt, dcVTaken, dcITaken}
+use Rattle.ranging.specs.declared.autorange.Ranging.{Ranging}
 use Rattle.ranging.specs.declared.autorange.Ranged.{Ranged}
 use Rattle.ranging.specs.Autorange.{autorangeV, autorangeI}
-use Rattle.ranging.proofs.Stated.{v-leaves, i-leaves}
+use Rattle.ranging.proofs.Stated.{v-leaves, i-leaves, v-bounds, i-bounds}
 use Rattle.paths.specs.declared.measuring.Measuring.{Measuring}
 use Rattle.paths.specs.declared.measuring.Outcome.{Outcome}
 use Rattle.paths.specs.Ring.{noteResult, noteCurrent}
@@ -22,6 +26,7 @@ use Rattle.paths.specs.MethodB.{bAutorange, bUnranged, bNext, bFrame}
 use Rattle.paths.specs.Alternating.{altAutorange, switched, altPhaseDone, altNext, altFrame}
 use Rattle.paths.specs.Dc.{dcVResult, dcVPart, dcIResult, dcIPart, dcFrame}
 use Rattle.paths.specs.Frame.{frame}
+use Rattle.paths.specs.Whole.{instrumentIn, measuringIn, withMeasuring}
 
 -- one of two has what both have
 either : {A : Type 0} (P : A → Type 0) (t : Bool) (x y : A) → P x → P y → P (cond t x y)
@@ -95,83 +100,111 @@ module _ (w : Instrument) (mode : Mode) (codes : Codes) (now : ℕ) (m : Measuri
   unfolding frame dcFrame dcIPart
   dc-not-ready flags dc none no-ad1 = rw (dc, none, no-ad1)
 
--- ---- a frame leaves the automatic marks as they were
-abbrev Marks : Measuring → Ranges → Type 0
-Marks m r = (r .«v_auto» ≡ m .ranges .«v_auto») × (r .«i_auto» ≡ m .ranges .«i_auto»)
+-- ---- what both autoranges keep of the ranges and the barred unit, a frame keeps
+module _ (R : Ranges → ℕ → Type 0)
+    (keeps-v : (d : Description) (mode : Mode) (p : Parts) (g : Ranging) (now : ℕ) → R (g .ranges) (g .barred) → R (autorangeV d mode p g now .ranging .ranges) (autorangeV d mode p g now .ranging .barred))
+    (keeps-i : (d : Description) (mode : Mode) (p : Parts) (g : Ranging) (now : ℕ) → R (g .ranges) (g .barred) → R (autorangeI d mode p g now .ranging .ranges) (autorangeI d mode p g now .ranging .barred))
+    (w : Instrument) (mode : Mode) (codes : Codes) (now : ℕ) where
+  abbrev Keeps : Outcome → Type 0
+  Keeps o = R (o .measuring .ranges) (o .measuring .barred)
 
-module _ (w : Instrument) (mode : Mode) (now : ℕ) where
-  ranged-v : (m : Measuring) → Marks m (autorangeV (w .description) mode (m .parts) (rangingIn m) now .ranging .ranges)
+  abbrev Ranges-kept : Ranged → Type 0
+  Ranges-kept r = R (r .ranging .ranges) (r .ranging .barred)
+
+  ranged-v : (m : Measuring) → R (m .ranges) (m .barred) → Ranges-kept (autorangeV (w .description) mode (m .parts) (rangingIn m) now)
   unfolding rangingIn
-  ranged-v m = let l = v-leaves (w .description) mode (m .parts) (rangingIn m) now in (l .0, l .1)
+  ranged-v m h = keeps-v (w .description) mode (m .parts) (rangingIn m) now h
 
-  ranged-i : (m : Measuring) → Marks m (autorangeI (w .description) mode (m .parts) (rangingIn m) now .ranging .ranges)
+  ranged-i : (m : Measuring) → R (m .ranges) (m .barred) → Ranges-kept (autorangeI (w .description) mode (m .parts) (rangingIn m) now)
   unfolding rangingIn
-  ranged-i m = let l = i-leaves (w .description) mode (m .parts) (rangingIn m) now in (l .0, l .1)
+  ranged-i m h = keeps-i (w .description) mode (m .parts) (rangingIn m) now h
 
-  b-ranged : (m : Measuring) → Marks m (bAutorange w mode now m .ranging .ranges)
+  b-ranged : (m : Measuring) → R (m .ranges) (m .barred) → Ranges-kept (bAutorange w mode now m)
   unfolding bAutorange
-  b-ranged m = either (λ (r : Ranged). Marks m (r .ranging .ranges)) (eqb (m .cycle .stat) r34Yy) _ _ (ranged-v m) (ranged-i m)
+  b-ranged m h = either Ranges-kept (eqb (m .cycle .stat) r34Yy) _ _ (ranged-v m h) (ranged-i m h)
 
-  alt-ranged : (m : Measuring) → Marks m (altAutorange w mode now m .ranging .ranges)
+  alt-ranged : (m : Measuring) → R (m .ranges) (m .barred) → Ranges-kept (altAutorange w mode now m)
   unfolding altAutorange
-  alt-ranged m = either (λ (r : Ranged). Marks m (r .ranging .ranges)) (eqb (m .cycle .phase % 2) 0) _ _ (ranged-v m) (ranged-i m)
+  alt-ranged m h = either Ranges-kept (eqb (m .cycle .phase % 2) 0) _ _ (ranged-v m h) (ranged-i m h)
 
-  module _ (codes : Codes) where
-    b-marks : (m : Measuring) → Marks m (bFrame w mode codes now m .measuring .ranges)
-    unfolding bFrame bNext bUnranged ends goesOn rangedTo withMeasured
-    b-marks m =
-        let disc = ltb 0 (m .cycle .skip) in
-        let t = take w (m .ranges) (m .cycle .stat) codes (measuredIn m) in
-        let n = withMeasured (withRing m (noteResult (m .ring) now (m .cycle .stat) disc codes)) (t .measured) in
-        let P : Outcome → Type 0 = λ o. Marks m (o .measuring .ranges) in
-        either P disc _ _ (refl, refl)
-        (either P (t .accepted) _ _
-        (either P (eqb (n .cycle .stat) r34Xy) _ _ (refl, refl)
-        (either P (bAutorange w mode now n .mark .set) _ _ (b-ranged n) (refl, refl))) (refl, refl))
+  b-keeps : (m : Measuring) → R (m .ranges) (m .barred) → Keeps (bFrame w mode codes now m)
+  unfolding bFrame bNext bUnranged ends goesOn rangedTo withMeasured
+  b-keeps m h =
+      let disc = ltb 0 (m .cycle .skip) in
+      let t = take w (m .ranges) (m .cycle .stat) codes (measuredIn m) in
+      let n = withMeasured (withRing m (noteResult (m .ring) now (m .cycle .stat) disc codes)) (t .measured) in
+      either Keeps disc _ _ h
+      (either Keeps (t .accepted) _ _
+      (either Keeps (eqb (n .cycle .stat) r34Xy) _ _ h
+      (either Keeps (bAutorange w mode now n .mark .set) _ _ (b-ranged n h) h)) h)
 
-    alt-marks : (m : Measuring) → Marks m (altFrame w mode codes now m .measuring .ranges)
-    unfolding altFrame altNext altPhaseDone switched ends goesOn rangedTo withMeasured
-    alt-marks m =
-        let disc = ltb 0 (m .cycle .skip) in
-        let t = takeAlt w (m .ranges) (m .cycle .phase) codes (measuredIn m) in
-        let n = withMeasured (withRing m (noteResult (m .ring) now (1 + m .cycle .phase % 2) disc codes)) (t .measured) in
-        let k = countUp (n .cycle .taken) in
-        let full = withCycle n (withTaken (n .cycle) k) in
-        let P : Outcome → Type 0 = λ o. Marks m (o .measuring .ranges) in
-        either P disc _ _ (refl, refl)
-        (either P (t .accepted) _ _
-        (either P (ltb k altN) _ _ (refl, refl)
-        (either P (altAutorange w mode now full .mark .set) _ _ (alt-ranged full) (refl, refl))) (refl, refl))
+  alt-keeps : (m : Measuring) → R (m .ranges) (m .barred) → Keeps (altFrame w mode codes now m)
+  unfolding altFrame altNext altPhaseDone switched ends goesOn rangedTo withMeasured
+  alt-keeps m h =
+      let disc = ltb 0 (m .cycle .skip) in
+      let t = takeAlt w (m .ranges) (m .cycle .phase) codes (measuredIn m) in
+      let n = withMeasured (withRing m (noteResult (m .ring) now (1 + m .cycle .phase % 2) disc codes)) (t .measured) in
+      let k = countUp (n .cycle .taken) in
+      let done = withCycle n (withTaken (n .cycle) k) in
+      either Keeps disc _ _ h
+      (either Keeps (t .accepted) _ _
+      (either Keeps (ltb k altN) _ _ h
+      (either Keeps (altAutorange w mode now done .mark .set) _ _ (alt-ranged done h) h)) h)
 
-    dc-v-marks : (m : Measuring) → Marks m (dcVPart w mode codes now m .measuring .ranges)
-    unfolding dcVPart dcVResult ends rangedTo withMeasured
-    dc-v-marks m =
-        let disc = ltb 0 (m .cycle .«skip_y») in
-        let r = withRing m (noteResult (m .ring) now 3 disc codes) in
-        let n = withMeasured r (dcVTaken w (r .ranges .vr) codes (measuredIn r)) in
-        let P : Outcome → Type 0 = λ o. Marks m (o .measuring .ranges) in
-        either P disc _ _ (refl, refl) (either P (autorangeV (w .description) mode (n .parts) (rangingIn n) now .mark .set) _ _ (ranged-v n) (refl, refl))
+  dc-v-keeps : (m : Measuring) → R (m .ranges) (m .barred) → Keeps (dcVPart w mode codes now m)
+  unfolding dcVPart dcVResult ends rangedTo withMeasured
+  dc-v-keeps m h =
+      let disc = ltb 0 (m .cycle .«skip_y») in
+      let r = withRing m (noteResult (m .ring) now 3 disc codes) in
+      let n = withMeasured r (dcVTaken w (r .ranges .vr) codes (measuredIn r)) in
+      either Keeps disc _ _ h (either Keeps (autorangeV (w .description) mode (n .parts) (rangingIn n) now .mark .set) _ _ (ranged-v n h) h)
 
-    dc-i-marks : (flags : ℕ) (m : Measuring) → Marks m (dcIPart w mode flags codes now m .measuring .ranges)
-    unfolding dcIPart dcIResult ends goesOn rangedTo withMeasured
-    dc-i-marks flags m =
-        let n = withMeasured (withRing m (noteCurrent (m .ring) (codes .ad1))) (dcITaken w (m .ranges .ik) codes (measuredIn m)) in
-        let P : Outcome → Type 0 = λ o. Marks m (o .measuring .ranges) in
-        either P (holdsAd1 flags) _ _
-        (either P (ltb 0 (m .cycle .skip)) _ _ (refl, refl)
-        (either P (autorangeI (w .description) mode (n .parts) (rangingIn n) now .mark .set) _ _ (ranged-i n) (refl, refl))) (refl, refl)
+  dc-i-keeps : (flags : ℕ) (m : Measuring) → R (m .ranges) (m .barred) → Keeps (dcIPart w mode flags codes now m)
+  unfolding dcIPart dcIResult ends goesOn rangedTo withMeasured
+  dc-i-keeps flags m h =
+      let n = withMeasured (withRing m (noteCurrent (m .ring) (codes .ad1))) (dcITaken w (m .ranges .ik) codes (measuredIn m)) in
+      either Keeps (holdsAd1 flags) _ _
+      (either Keeps (ltb 0 (m .cycle .skip)) _ _ h
+      (either Keeps (autorangeI (w .description) mode (n .parts) (rangingIn n) now .mark .set) _ _ (ranged-i n h) h)) h
 
-    dc-marks : (flags : ℕ) (m : Measuring) → Marks m (dcFrame w mode flags codes now m .measuring .ranges)
-    unfolding dcFrame
-    dc-marks flags m =
-        let v = dcVPart w mode codes now m in
-        let e = dc-v-marks m in
-        let f = dc-i-marks flags (v .measuring) in
-        let P : Outcome → Type 0 = λ o. Marks m (o .measuring .ranges) in
-        either P (holdsRmsLpf flags) _ _ (either P (v .mark .set) _ _ e (f .0 ∙ e .0, f .1 ∙ e .1)) (dc-i-marks flags m)
+  dc-keeps : (flags : ℕ) (m : Measuring) → R (m .ranges) (m .barred) → Keeps (dcFrame w mode flags codes now m)
+  unfolding dcFrame
+  dc-keeps flags m h =
+      let v = dcVPart w mode codes now m in
+      let e = dc-v-keeps m h in
+      either Keeps (holdsRmsLpf flags) _ _ (either Keeps (v .mark .set) _ _ e (dc-i-keeps flags (v .measuring) e)) (dc-i-keeps flags m h)
 
-    pub marks-stay : (flags : ℕ) (m : Measuring) → Marks m (frame w mode flags codes now m .measuring .ranges)
-    unfolding frame ends
-    marks-stay flags m =
-        let P : Outcome → Type 0 = λ o. Marks m (o .measuring .ranges) in
-        either P (mode .dc) _ _ (dc-marks flags m) (either P (holdsRmsLpf flags) _ _ (either P (mode .alt) _ _ (alt-marks m) (b-marks m)) (refl, refl))
+  pub frame-keeps : (flags : ℕ) (m : Measuring) → R (m .ranges) (m .barred) → Keeps (frame w mode flags codes now m)
+  unfolding frame ends
+  frame-keeps flags m h =
+      either Keeps (mode .dc) _ _ (dc-keeps flags m h)
+      (either Keeps (holdsRmsLpf flags) _ _ (either Keeps (mode .alt) _ _ (alt-keeps m h) (b-keeps m h)) h)
+
+-- ---- the automatic marks stay as they were
+module _ (w : Instrument) (mode : Mode) (codes : Codes) (now flags : ℕ) (m : Measuring) where
+  pub marks-stay : let r = frame w mode flags codes now m .measuring .ranges in (r .«v_auto» ≡ m .ranges .«v_auto») × (r .«i_auto» ≡ m .ranges .«i_auto»)
+  marks-stay =
+      frame-keeps (λ r barred. (r .«v_auto» ≡ m .ranges .«v_auto») × (r .«i_auto» ≡ m .ranges .«i_auto»))
+      (λ d mo p g t h. let l = v-leaves d mo p g t in (l .0 ∙ h .0, l .1 ∙ h .1))
+      (λ d mo p g t h. let l = i-leaves d mo p g t in (l .0 ∙ h .0, l .1 ∙ h .1))
+      w mode codes now flags m (refl, refl)
+
+  -- ---- ranges within the tables, and a barred unit mA or uA, stay so
+  pub bounds-stay : m .ranges .vr ≤ 3 → m .ranges .ik ≤ 5 → m .barred ≤ 2
+      → let o = frame w mode flags codes now m .measuring in (o .ranges .vr ≤ 3) × (o .ranges .ik ≤ 5) × (o .barred ≤ 2)
+  bounds-stay v i b =
+      frame-keeps (λ r barred. (r .vr ≤ 3) × (r .ik ≤ 5) × (barred ≤ 2)) (λ d mo p g t h. v-bounds d mo p g t h) (λ d mo p g t h. i-bounds d mo p g t h)
+      w mode codes now flags m (v, i, b)
+
+-- ---- a whole meter: what is put in is what is read, and nothing else moves
+pub read-back : (m : Pw) (x : Measuring) → measuringIn (withMeasuring m x) ≡ x
+unfolding measuringIn withMeasuring
+read-back m x = refl
+
+pub put-back : (m : Pw) → withMeasuring m (measuringIn m) ≡ m
+unfolding measuringIn withMeasuring
+put-back m = refl
+
+pub instrument-stays : (m : Pw) (x : Measuring) → instrumentIn (withMeasuring m x) ≡ instrumentIn m
+unfolding instrumentIn withMeasuring
+instrument-stays m x = refl

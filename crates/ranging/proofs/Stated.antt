@@ -1,8 +1,17 @@
--- What follows from the definitions: which parts an apply leaves measured, and what an autorange leaves as it was.
-use mathlib.Core.Bool.{Bool, true, false, cond, true≢false}
+-- What follows from the definitions: which quantities an apply leaves marked, what an autorange leaves as it was, that ranges stay within the tables, and that `stat` goes with the phase.
+use mathlib.Core.Bool.{Bool, true, false, cond, _&&_, true≢false}
 use mathlib.Core.Path.{_≡_, refl}
-use Prim.Native.Nat.{ℕ, _/_, _%_}
-use lib.Dec.{eqb}
+use Prim.Native.Nat.{ℕ, _+_, _-_, _/_, _%_, _≤_}
+use native.Mathlib.Omega.{arith}
+use borrow.Author.Tests.{ltb-true}
+use lib.Dec.{eqb, ltb, leb}
+use lib.Ieee.{Float, nan, lt}
+use Rattle.numbers.specs.Binary32.{_*f_, _/f_}
+use Rattle.numbers.specs.Root.{hypotOf}
+use Rattle.tables.specs.Bounds.{atMost, entryAt}
+use Rattle.tables.specs.Constants.{vLim, iLim, cycleAt}
+use Rattle.tables.specs.Ranges.{iuIr}
+use Rattle.tables.proofs.Held.{at-most, iu-most}
 use Rattle.tables.specs.declared.description.Description.{Description}
 use Rattle.state.specs.declared.Comparator.{Comparator}
 use Rattle.state.specs.declared.Cycle.{Cycle}
@@ -17,7 +26,8 @@ use Rattle.ranging.specs.declared.autorange.Ranging.{Ranging}
 use Rattle.ranging.specs.declared.change.Change.{Change}
 use Rattle.ranging.specs.declared.change.Change.the-variants.{Stays, To}
 use Rattle.ranging.specs.Apply.{bitIn, keptSeen, apply}
-use Rattle.ranging.specs.Change.{vChange, trips, barredAfter, iChange}
+use Rattle.ranging.specs.Change.{tenth, step, vChange, isOver, trips, barredAfter, leastIk, iChange}
+use Rattle.ranging.specs.Cycle.{advance, altSwitch}
 use Rattle.ranging.specs.Autorange.{stays, changedV, changedI, byChangeV, byChangeI, autorangeV, autorangeI}
 
 -- ---- an apply
@@ -102,3 +112,88 @@ module _ (d : Description) (mode : Mode) (p : Parts) (g : Ranging) (now : ℕ) w
 pub auto-never-trips : (d : Description) (r : Ranges) (p : Parts) → r .«i_auto» ≡ true → trips d r p ≡ false
 unfolding trips
 auto-never-trips d r p auto = rw auto
+
+-- ---- ranges within the tables stay so, and a barred unit is mA or uA
+
+abbrev Below : ℕ → Change → Type 0
+Below most Stays = Unit
+Below most (To k) = k ≤ most
+
+step-below : (over limit m : Float) (k least most : ℕ) → k ≤ most → Below most (step over limit m k least most)
+unfolding step
+step-below over limit m k least most h = go (lt (over *f limit) m) (ltb k most) refl (lt m (tenth *f limit /f over) && ltb least k)
+  where
+    go : (up room : Bool) → ltb k most ≡ room → (down : Bool) → Below most (cond (up && room) (To (k + 1)) (cond down (To (k - 1)) Stays))
+    go true true e down = omega (arith, ltb-true k most e)
+    go true false e true = omega arith
+    go true false e false = tt
+    go false room e true = omega arith
+    go false room e false = tt
+
+v-below : (d : Description) (r : Ranges) (p : Parts) → r .vr ≤ 3 → Below 3 (vChange d r p)
+unfolding vChange
+v-below d r p h = go (r .«v_auto»)
+  where
+    go : (auto : Bool) → Below 3 (cond auto (step (d .over) (entryAt nan vLim (r .vr)) (hypotOf (p .«v_ac») (p .«v_dc»)) (r .vr) 0 3) Stays)
+    go true = step-below (d .over) (entryAt nan vLim (r .vr)) (hypotOf (p .«v_ac») (p .«v_dc»)) (r .vr) 0 3 h
+    go false = tt
+
+i-below : (d : Description) (r : Ranges) (barred : ℕ) (p : Parts) → r .ik ≤ 5 → Below 5 (iChange d r barred p)
+unfolding iChange
+i-below d r barred p h = go (r .«i_auto») (isOver (d .over) (r .ik) p && leb 1 (iuIr (r .ik) .iu))
+  where
+    go : (auto hop : Bool) → Below 5 (cond auto (cond hop (To 4) (step (d .over) (entryAt nan iLim (r .ik)) (hypotOf (p .«i_ac») (p .«i_dc»)) (r .ik) (leastIk (d .«a_auto») barred) 5)) Stays)
+    go true true = omega arith
+    go true false = step-below (d .over) (entryAt nan iLim (r .ik)) (hypotOf (p .«i_ac») (p .«i_dc»)) (r .ik) (leastIk (d .«a_auto») barred) 5 h
+    go false hop = tt
+
+barred-below : (barred ik : ℕ) → barred ≤ 2 → barredAfter barred ik ≤ 2
+unfolding barredAfter
+barred-below barred ik h = go (eqb barred 0)
+  where
+    go : (none : Bool) → cond none (iuIr ik .iu) (atMost (iuIr ik .iu) barred) ≤ 2
+    go true = iu-most ik
+    go false = omega (arith, at-most (iuIr ik .iu) barred, iu-most ik)
+
+abbrev pub InBounds : Ranges → ℕ → Type 0
+InBounds r barred = (r .vr ≤ 3) × (r .ik ≤ 5) × (barred ≤ 2)
+
+module _ (d : Description) (mode : Mode) (p : Parts) (g : Ranging) (now : ℕ) (h : InBounds (g .ranges) (g .barred)) where
+  pub v-bounds : InBounds (autorangeV d mode p g now .ranging .ranges) (autorangeV d mode p g now .ranging .barred)
+  unfolding autorangeV stays changedV
+  v-bounds = go (vChange d (g .ranges) p) (v-below d (g .ranges) p (h .0))
+    where
+      go : (asked : Change) → Below 3 asked → InBounds (byChangeV mode g now asked .ranging .ranges) (byChangeV mode g now asked .ranging .barred)
+      go Stays b = h
+      go (To vr) b = (b, h .1, h .2)
+
+  pub i-bounds : InBounds (autorangeI d mode p g now .ranging .ranges) (autorangeI d mode p g now .ranging .barred)
+  unfolding autorangeI stays changedI
+  i-bounds = go (trips d (g .ranges) p) (iChange d (g .ranges) (g .barred) p) (i-below d (g .ranges) (g .barred) p (h .1))
+    where
+      go : (trip : Bool) (asked : Change) → Below 5 asked → let after = cond trip (changedI mode g (barredAfter (g .barred) (g .ranges .ik)) 5 now) (byChangeI mode g now asked) .ranging in InBounds (after .ranges) (after .barred)
+      go true asked b = (h .0, omega arith, barred-below (g .barred) (g .ranges .ik) (h .2))
+      go false Stays b = h
+      go false (To ik) b = (h .0, b, h .2)
+
+-- ---- `stat` is `CYCLE[phase]` after an apply, an advance and a switch of the alternating method
+pub apply-stat : (keep : Keep) (mode : Mode) (vr : ℕ) (c : Cycle) (k : Comparator) (now : ℕ) → let a = apply keep mode vr c k now .cycle in a .stat ≡ cycleAt (a .phase)
+unfolding apply
+apply-stat keep mode vr c k now = refl
+
+pub advance-stat : (c : Cycle) → advance c .stat ≡ cycleAt (advance c .phase)
+unfolding advance
+advance-stat c = refl
+
+pub switch-stat : (c : Cycle) (now : ℕ) → let a = altSwitch c now .cycle in a .stat ≡ cycleAt (a .phase)
+unfolding altSwitch
+switch-stat c now = refl
+
+-- what they leave: an advance all but phase, `stat` and the results to drop; a switch `seen` and `skip_y`
+pub advance-leaves : (c : Cycle) → (advance c .seen ≡ c .seen) × (advance c .taken ≡ c .taken) × (advance c .«skip_y» ≡ c .«skip_y»)
+unfolding advance
+advance-leaves c = (refl, refl, refl)
+
+pub switch-leaves : (c : Cycle) (now : ℕ) → let a = altSwitch c now .cycle in (a .seen ≡ c .seen) × (a .«skip_y» ≡ c .«skip_y»)
+unfolding altSwitch
+switch-leaves c now = (refl, refl)
