@@ -206,9 +206,10 @@ struct leaf_ranges {
     bool i_auto;
 };
 
-/* The phase, the results still to drop (skip_y those of the DC row's V), the results taken in
- * this phase of the alternating method, R34, and the parts measured since the last apply: 1
- * power, 2 voltage, 4 current. */
+/* The phase; the results still to drop (skip_y those of the DC row's voltage); the results taken in
+ * this phase of the alternating method; stat, which is R34 where the row is the power row, and
+ * elsewhere only CYCLE's entry for the phase; and the quantities marked as measured (1 power, 2
+ * voltage, 4 current), of which an apply clears those that it does not keep. */
 struct leaf_cycle {
     uint8_t phase;
     uint8_t skip;
@@ -250,7 +251,8 @@ struct leaf_settings {
     uint8_t main;
 };
 
-/* The phase calibration and what it has found. */
+/* The phase step in force (sph), and the phase calibration: 0 off, 1 or 2 for its two rounds; the
+ * powers counted in this round and their sum; the step and the mean of round 1; the result. */
 struct leaf_phase_cal {
     int8_t sph;
     uint8_t cal;
@@ -301,8 +303,8 @@ struct leaf_comparator {
 };
 
 /* The sixteen latest conversions, the one of number n at n modulo 16: which result it was,
- * whether it was dropped, its codes, and the ms since the one before. ring_k is the next number,
- * t_res the time of the last result of RMS and LPF. */
+ * whether it was dropped, its codes, and the ms since the RMS and LPF result before it (0 for
+ * AD1). ring_k is the next number, t_res the last RMS and LPF result's time. */
 enum { LEAF_RING = 16 };
 struct leaf_ring {
     uint8_t stat[LEAF_RING];
@@ -314,9 +316,9 @@ struct leaf_ring {
     uint64_t t_res;
 };
 
-/* The whole meter. `barred` is 0 where nothing is barred, else the unit (1 mA, 2 uA) of a current
- * range that tripped; over_t0 is since when the current is above its limit. It is plain data: a
- * copy of it is the same meter. */
+/* The whole meter. `barred` is 0 where nothing is barred, else the coarsest unit (1 mA, 2 uA) of a
+ * current range that tripped: it and the finer one are barred. over_t0 is since when the current is
+ * above its limit. It is plain data: a copy of it is the same meter. */
 struct leaf_pw {
     struct leaf_description description;
     struct leaf_calibration calibration;

@@ -1,13 +1,17 @@
 // Runs rows of document 01 and other figures from outside through the functions, and compares. It
 // writes the number of each row that differs, and at the end how many agreed and how many differed.
+use codes::Codes;
 use codes::Decoded;
 use figures::acc::Acc;
 use figures::acc::Added;
 use figures::tally::Accounted;
 use figures::tally::Tally;
 use refusals::Refusal;
+use state::Pw;
+use tables::calibration::Calibration;
 use tables::description::Description;
 use tables::window::Window;
+use takes::take::Measured;
 
 struct Score {
     agree: u64,
@@ -314,6 +318,51 @@ fn totals_rows(s: Score) -> Score {
     row(s, 86, has_bits(f.i, 0x4080_0000))
 }
 
+// Whether a meter just made takes this RMS code with this R34.
+fn takes_rms(stat: u8, rms: i64) -> bool {
+    let description = Description {
+        mv_div: [1.0, 1.0],
+        shunt: [1.0, 1.0, 1.0],
+        over: 1.0,
+        a_auto: false,
+    };
+    let calibration = Calibration {
+        words: [0; 73],
+        valid: false,
+    };
+    let pw = Pw::new(description, calibration);
+    let with = paths::whole::instrument_in(pw);
+    let ranges = pw.ranges;
+    let parts = pw.parts;
+    let phase_cal = pw.phase_cal;
+    let before = Measured {
+        parts,
+        seen: 0,
+        phase_cal,
+    };
+    let codes = Codes {
+        ad1: 0,
+        lpf: 0,
+        rms,
+    };
+    let taken = takes::take::take(with, ranges, stat, codes, before);
+    taken.accepted
+}
+
+// Rows 91 to 94: document 01, XY RMS 2^36 is taken and 2^36 + 1 turned down, and so below zero. Rows 95
+// to 98: where the published Rust's root of XX (80 hex) and YY (8C hex) exceeds 262,144.
+fn limit_rows(s: Score) -> Score {
+    let mut s = s;
+    s = row(s, 91, takes_rms(0x88, 68719476736));
+    s = row(s, 92, !takes_rms(0x88, 68719476737));
+    s = row(s, 93, takes_rms(0x88, -68719476736));
+    s = row(s, 94, !takes_rms(0x88, -68719476737));
+    s = row(s, 95, takes_rms(0x80, 68719489023));
+    s = row(s, 96, !takes_rms(0x80, 68719489024));
+    s = row(s, 97, takes_rms(0x8C, 68719489023));
+    row(s, 98, !takes_rms(0x8C, 68719489024))
+}
+
 fn main() {
     let s = rms_rows(code_rows(Score {
         agree: 0,
@@ -321,7 +370,7 @@ fn main() {
     }));
     let s = max_rows(root_rows(length_rows(s)));
     let s = acc_rows(description_rows(window_rows(s)));
-    let s = totals_rows(count_rows(s));
+    let s = limit_rows(totals_rows(count_rows(s)));
     io::print_decimal(1, s.agree);
     io::write_all(1, b" rows agree, ");
     io::print_decimal(1, s.differ);
