@@ -73,10 +73,23 @@ static void bench_figures(void)
           (tally = leaf_accounting_step(tally, 1000, some_figure(k), some_figure(~k), true).tally).t_int);
 }
 
+/* Frames of each path, on a meter that is kept: some 1,000 bytes go in and out by value. */
+static void bench_frames(void)
+{
+    struct leaf_description d = {{1.0f, 1.0f}, {1.0f, 1.0f, 1.0f}, 1.0f, false};
+    struct leaf_pw b = leaf_pw_new(d, (struct leaf_calibration){.valid = false}), alt = b, dc = b;
+    alt.mode.alt = true;
+    dc.mode.dc = true;
+    BENCH("leaf_frame, B", uint64_t, (b = leaf_frame(b, k, 0x18, 0, k % 4096, k % 65536).pw).ring.ring_k);
+    BENCH("leaf_frame, alt", uint64_t, (alt = leaf_frame(alt, k, 0x18, 0, k % 4096, k % 65536).pw).ring.ring_k);
+    BENCH("leaf_frame, DC", uint64_t, (dc = leaf_frame(dc, k, 0x1C, k % 4096, k % 4096, k % 65536).pw).ring.ring_k);
+}
+
 int main(void)
 {
     BENCH("(loop alone)", float, some_float(k));
     bench_codes_and_numbers();
     bench_figures();
+    bench_frames();
     return 0;
 }
