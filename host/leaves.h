@@ -2,7 +2,8 @@
  *
  * They are exported so that they can be compared with the published Rust, function by function (by
  * pwscript) and call by call (by tests/frames.c), and with the C compiler's arithmetic (by
- * tests/test_leaves.c and tests/test_figures.c). They are no part of the product's interface, pw.h.
+ * tests/test_leaves.c and tests/test_figures.c) or the published text (by tests/test_state.c). They are
+ * no part of the product's interface, pw.h.
  * Each answers for every argument; float and double mean IEEE 754's binary32 and binary64, and a
  * NaN's sign and payload are not kept. */
 #ifndef LEAVES_H
@@ -207,9 +208,9 @@ struct leaf_ranges {
 };
 
 /* The phase; the results still to drop (skip_y those of the DC row's voltage); the results taken in
- * this phase of the alternating method; stat, which is R34 where the row is the power row, and
- * elsewhere only CYCLE's entry for the phase; and the quantities marked as measured (1 power, 2
- * voltage, 4 current), of which an apply clears those that it does not keep. */
+ * this phase of the alternating method; stat, which is R34 where the row is the power row (with
+ * another row it is in no register); and the quantities marked as measured (1 power, 2 voltage, 4
+ * current), of which an apply clears those that it does not keep. */
 struct leaf_cycle {
     uint8_t phase;
     uint8_t skip;

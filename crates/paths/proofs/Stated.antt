@@ -1,7 +1,7 @@
--- What follows from the definitions: the ring notes every result, a result switched down changes nothing else, a V range that changes ends the DC path, a frame leaves the automatic marks, and ranges within the tables stay so.
+-- What follows from the definitions: the ring notes every result, a result turned down changes nothing else, a V range that changes ends the DC path, a frame leaves the automatic marks, and ranges within the tables stay so.
 use mathlib.Core.Path.{_≡_, refl, _∙_}
 use mathlib.Core.Bool.{Bool, true, false, cond}
-use Prim.Native.Nat.{ℕ, _+_, _%_, _≤_}
+use Prim.Native.Nat.{ℕ, _+_, _%_}
 use lib.Dec.{eqb, ltb}
 use Rattle.codes.specs.declared.Codes.{Codes}
 use Rattle.codes.specs.Flags.{holdsAd1, holdsRmsLpf}
@@ -17,7 +17,7 @@ use Rattle.takes.specs.Take.{take, takeAlt, dcVTaken, dcITaken}
 use Rattle.ranging.specs.declared.autorange.Ranging.{Ranging}
 use Rattle.ranging.specs.declared.autorange.Ranged.{Ranged}
 use Rattle.ranging.specs.Autorange.{autorangeV, autorangeI}
-use Rattle.ranging.proofs.Stated.{v-leaves, i-leaves, v-bounds, i-bounds}
+use Rattle.ranging.proofs.Stated.{v-leaves, i-leaves, InBounds, v-bounds, i-bounds}
 use Rattle.paths.specs.declared.measuring.Measuring.{Measuring}
 use Rattle.paths.specs.declared.measuring.Outcome.{Outcome}
 use Rattle.paths.specs.Ring.{noteResult, noteCurrent}
@@ -36,7 +36,7 @@ either P false x y f g = g
 -- ---- document 01: "The ring notes it all the same"
 
 module _ (w : Instrument) (mode : Mode) (codes : Codes) (now : ℕ) (m : Measuring) where
-  -- method B: dropped, switched down or taken, whatever comes after
+  -- method B: dropped, turned down or taken, whatever comes after
   pub b-notes : bFrame w mode codes now m .measuring .ring ≡ noteResult (m .ring) now (m .cycle .stat) (ltb 0 (m .cycle .skip)) codes
   unfolding bFrame bNext bUnranged ends goesOn rangedTo withMeasured
   b-notes =
@@ -75,7 +75,7 @@ module _ (w : Instrument) (mode : Mode) (codes : Codes) (now : ℕ) (m : Measuri
       let P : Outcome → Type 0 = λ o. o .measuring .ring ≡ r in
       either P disc _ _ refl (either P (autorangeV (w .description) mode (n .parts) (rangingIn n) now .mark .set) _ _ refl refl)
 
-  -- ---- a result switched down changes nothing but the ring
+  -- ---- a result turned down changes nothing but the ring
   pub down-changes-ring : ltb 0 (m .cycle .skip) ≡ false → take w (m .ranges) (m .cycle .stat) codes (measuredIn m) .accepted ≡ false
       → bFrame w mode codes now m ≡ ends (withRing m (noteResult (m .ring) now (m .cycle .stat) false codes))
   unfolding bFrame
@@ -190,11 +190,10 @@ module _ (w : Instrument) (mode : Mode) (codes : Codes) (now flags : ℕ) (m : M
       w mode codes now flags m (refl, refl)
 
   -- ---- ranges within the tables, and a barred unit mA or uA, stay so
-  pub bounds-stay : m .ranges .vr ≤ 3 → m .ranges .ik ≤ 5 → m .barred ≤ 2
-      → let o = frame w mode flags codes now m .measuring in (o .ranges .vr ≤ 3) × (o .ranges .ik ≤ 5) × (o .barred ≤ 2)
-  bounds-stay v i b =
-      frame-keeps (λ r barred. (r .vr ≤ 3) × (r .ik ≤ 5) × (barred ≤ 2)) (λ d mo p g t h. v-bounds d mo p g t h) (λ d mo p g t h. i-bounds d mo p g t h)
-      w mode codes now flags m (v, i, b)
+  pub bounds-stay : InBounds (m .ranges) (m .barred) → let o = frame w mode flags codes now m .measuring in InBounds (o .ranges) (o .barred)
+  bounds-stay h =
+      frame-keeps InBounds v-bounds i-bounds
+      w mode codes now flags m h
 
 -- ---- a whole meter: what is put in is what is read, and nothing else moves
 pub read-back : (m : Pw) (x : Measuring) → measuringIn (withMeasuring m x) ≡ x

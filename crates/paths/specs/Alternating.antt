@@ -15,7 +15,7 @@ use Rattle.ranging.specs.Cycle.{altSwitch}
 use Rattle.paths.specs.declared.measuring.Measuring.{Measuring}
 use Rattle.paths.specs.declared.measuring.Outcome.{Outcome}
 use Rattle.paths.specs.Ring.{noteResult}
-use Rattle.paths.specs.Measuring.{ends, goesOn, withSkip, withTaken, withCycle, withRing, measuredIn, withMeasured, rangingIn, rangedTo}
+use Rattle.paths.specs.Measuring.{ends, goesOn, withSkip, withTaken, withCycle, withRing, measuredIn, withMeasured, rangingIn, unlessRanged}
 
 -- `pw_autorange(clk, phase & 1 == 0)`
 unfoldable pub altAutorange : Instrument → Mode → ℕ → Measuring → Ranged
@@ -34,7 +34,7 @@ switched now m =
 
 -- the phase has its results
 unfoldable pub altPhaseDone : Instrument → Mode → ℕ → Measuring → Outcome
-altPhaseDone w mode now m = cond (altAutorange w mode now m .mark .set) (rangedTo m (altAutorange w mode now m)) (switched now m)
+altPhaseDone w mode now m = unlessRanged m (switched now m) (altAutorange w mode now m)
 
 -- `taken += 1; if taken >= ALT_N`
 unfoldable pub altNext : Instrument → Mode → ℕ → Measuring → Outcome

@@ -7,16 +7,11 @@ use Rattle.codes.specs.Flags.{holdsAd1, holdsRmsLpf}
 use Rattle.state.specs.declared.Mode.{Mode}
 use Rattle.takes.specs.declared.scales.Instrument.{Instrument}
 use Rattle.takes.specs.Take.{dcVTaken, dcITaken}
-use Rattle.ranging.specs.declared.autorange.Ranged.{Ranged}
 use Rattle.ranging.specs.Autorange.{autorangeV, autorangeI}
 use Rattle.paths.specs.declared.measuring.Measuring.{Measuring}
 use Rattle.paths.specs.declared.measuring.Outcome.{Outcome}
 use Rattle.paths.specs.Ring.{noteResult, noteCurrent}
-use Rattle.paths.specs.Measuring.{ends, goesOn, withSkip, withSkipY, withCycle, withRing, measuredIn, withMeasured, rangingIn, rangedTo}
-
--- a range that was applied ends the frame
-abbrev pub unlessRanged : Measuring → Outcome → Ranged → Outcome
-unlessRanged m otherwise r = cond (r .mark .set) (rangedTo m r) otherwise
+use Rattle.paths.specs.Measuring.{ends, goesOn, withSkip, withSkipY, withCycle, withRing, measuredIn, withMeasured, rangingIn, unlessRanged}
 
 -- the voltage is taken
 abbrev pub dcVAfter : Instrument → Codes → Measuring → Measuring

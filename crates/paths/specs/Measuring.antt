@@ -1,10 +1,10 @@
 -- What a frame outside a job may change, and what it answers: rule 1 of docs/ARCHITECTURE.md. It also reads the description, the words, the corrections and the mode; nothing else of the meter is handed to it.
-use mathlib.Core.Bool.{true, false}
+use mathlib.Core.Bool.{true, false, cond}
 use Prim.Native.Nat.{ℕ}
 use Rattle.state.specs.declared.Comparator.{Comparator}
 use Rattle.state.specs.declared.Cycle.{Cycle}
 use Rattle.state.specs.declared.Ring.{Ring}
-use Rattle.state.specs.Fresh.{never}
+use Rattle.state.specs.Fresh.{noTime}
 use Rattle.takes.specs.declared.take.Measured.{Measured}
 use Rattle.ranging.specs.declared.autorange.Ranging.{Ranging}
 use Rattle.ranging.specs.declared.autorange.Ranged.{Ranged}
@@ -13,11 +13,11 @@ use Rattle.paths.specs.declared.measuring.Outcome.{Outcome}
 
 -- the frame ends here: no mark, and no values
 unfoldable pub ends : Measuring → Outcome
-ends m = record { measuring = m; mark = never; accounts = false }
+ends m = record { measuring = m; mark = noTime; accounts = false }
 
 -- the source goes on to `pw_vals` and `pw_account`
 unfoldable pub goesOn : Measuring → Outcome
-goesOn m = record { measuring = m; mark = never; accounts = true }
+goesOn m = record { measuring = m; mark = noTime; accounts = true }
 
 -- ---- one field replaced
 
@@ -83,3 +83,7 @@ rangedTo m r =
       mark = r .mark;
       accounts = false;
     }
+
+-- a range that was applied ends the frame
+abbrev pub unlessRanged : Measuring → Outcome → Ranged → Outcome
+unlessRanged m otherwise r = cond (r .mark .set) (rangedTo m r) otherwise

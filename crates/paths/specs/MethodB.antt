@@ -15,7 +15,7 @@ use Rattle.paths.specs.declared.measuring.Measuring.{Measuring}
 use Rattle.paths.specs.declared.measuring.Outcome.{Outcome}
 use Rattle.paths.specs.Ring.{noteResult}
 use Rattle.paths.specs.Comparator.{cmpSelect}
-use Rattle.paths.specs.Measuring.{ends, goesOn, withSkip, withCycle, withComparator, withRing, measuredIn, withMeasured, rangingIn, rangedTo}
+use Rattle.paths.specs.Measuring.{ends, goesOn, withSkip, withCycle, withComparator, withRing, measuredIn, withMeasured, rangingIn, unlessRanged}
 
 -- `pw_autorange(clk, st == R34_YY)`
 unfoldable pub bAutorange : Instrument → Mode → ℕ → Measuring → Ranged
@@ -34,7 +34,7 @@ bUnranged w m = goesOn (advanced (withComparator m (cmpSelect w (m .ranges) (m .
 unfoldable pub bNext : Instrument → Mode → ℕ → Measuring → Outcome
 bNext w mode now m =
     cond (eqb (m .cycle .stat) r34Xy) (goesOn (advanced m))
-    (cond (bAutorange w mode now m .mark .set) (rangedTo m (bAutorange w mode now m)) (bUnranged w m))
+    (unlessRanged m (bUnranged w m) (bAutorange w mode now m))
 
 abbrev pub bAfterTake : Instrument → Mode → ℕ → Measuring → Taken → Outcome
 bAfterTake w mode now m t = cond (t .accepted) (bNext w mode now (withMeasured m (t .measured))) (ends m)

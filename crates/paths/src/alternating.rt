@@ -39,15 +39,15 @@ fn alt_autorange(with: Instrument, mode: Mode, now: u64, before: Measuring) -> R
 fn switched(now: u64, before: Measuring) -> Outcome
     ensures { λ r. ⌜ r ≡ switched now before ⌝ }
 {
-    let turn = alt_switch(before.cycle, now);
-    let cycle = turn.cycle;
+    let next = alt_switch(before.cycle, now);
+    let cycle = next.cycle;
     let mut after = before;
     after.cycle = cycle;
     Outcome {
         measuring: after,
         mark: Stamp {
             set: true,
-            at: turn.deadline,
+            at: next.deadline,
         },
         accounts: true,
     }
@@ -77,7 +77,7 @@ fn alt_next(with: Instrument, mode: Mode, now: u64, before: Measuring) -> Outcom
     alt_phase_done(with, mode, now, after)
 }
 
-// The ring's entry; then a dropped result, one switched down, or one taken.
+// The ring's entry; then a dropped result, one turned down, or one taken.
 pub(crate) fn alt_frame(
     with: Instrument,
     mode: Mode,

@@ -71,7 +71,7 @@ fn b_next(with: Instrument, mode: Mode, now: u64, before: Measuring) -> Outcome
     b_unranged(with, before)
 }
 
-// The ring's entry; then a dropped result, one switched down, or one taken.
+// The ring's entry; then a dropped result, one turned down, or one taken.
 pub(crate) fn b_frame(
     with: Instrument,
     mode: Mode,

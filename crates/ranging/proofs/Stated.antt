@@ -123,12 +123,12 @@ step-below : (over limit m : Float) (k least most : ℕ) → k ≤ most → Belo
 unfolding step
 step-below over limit m k least most h = go (lt (over *f limit) m) (ltb k most) refl (lt m (tenth *f limit /f over) && ltb least k)
   where
-    go : (up room : Bool) → ltb k most ≡ room → (down : Bool) → Below most (cond (up && room) (To (k + 1)) (cond down (To (k - 1)) Stays))
+    go : (up below : Bool) → ltb k most ≡ below → (down : Bool) → Below most (cond (up && below) (To (k + 1)) (cond down (To (k - 1)) Stays))
     go true true e down = omega (arith, ltb-true k most e)
     go true false e true = omega arith
     go true false e false = tt
-    go false room e true = omega arith
-    go false room e false = tt
+    go false below e true = omega arith
+    go false below e false = tt
 
 v-below : (d : Description) (r : Ranges) (p : Parts) → r .vr ≤ 3 → Below 3 (vChange d r p)
 unfolding vChange

@@ -5,7 +5,7 @@ use Rattle.tables.specs.declared.description.Description.{Description}
 use Rattle.state.specs.declared.Mode.{Mode}
 use Rattle.state.specs.declared.Ranges.{Ranges}
 use Rattle.state.specs.declared.Parts.{Parts}
-use Rattle.state.specs.Fresh.{never}
+use Rattle.state.specs.Fresh.{noTime}
 use Rattle.ranging.specs.declared.apply.Keep.the-variants.{Voltage, Current}
 use Rattle.ranging.specs.declared.apply.Applied.{Applied}
 use Rattle.ranging.specs.declared.change.Change.{Change}
@@ -17,7 +17,7 @@ use Rattle.ranging.specs.Change.{vChange, trips, barredAfter, iChange}
 
 -- nothing changes, and no mark is given
 unfoldable pub stays : Ranging → Ranged
-stays g = record { ranging = g; mark = never }
+stays g = record { ranging = g; mark = noTime }
 
 -- what an apply in these ranges leaves
 abbrev pub ranged : Ranges → ℕ → Applied → Ranged

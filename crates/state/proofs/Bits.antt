@@ -14,8 +14,8 @@ positive Power = omega (arith)
 positive Voltage = omega (arith)
 positive Current = omega (arith)
 
-pub room : (seen : ℕ) (q : Quantity) → seen < 256 → hasSeen seen q ≡ false → seen + bitOf q < 256
+pub still-fits : (seen : ℕ) (q : Quantity) → seen < 256 → hasSeen seen q ≡ false → seen + bitOf q < 256
 unfolding bitOf hasSeen
-room seen Power fits unset = omega (arith, fits, eqb-false (seen / 1 % 2) 1 unset)
-room seen Voltage fits unset = omega (arith, fits, eqb-false (seen / 2 % 2) 1 unset)
-room seen Current fits unset = omega (arith, fits, eqb-false (seen / 4 % 2) 1 unset)
+still-fits seen Power fits unset = omega (arith, fits, eqb-false (seen / 1 % 2) 1 unset)
+still-fits seen Voltage fits unset = omega (arith, fits, eqb-false (seen / 2 % 2) 1 unset)
+still-fits seen Current fits unset = omega (arith, fits, eqb-false (seen / 4 % 2) 1 unset)

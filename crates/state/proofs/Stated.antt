@@ -1,10 +1,9 @@
--- What follows from the definitions: a deadline of an accepted call is never held, and a meter just made has no zeros, no gain and no job.
+-- What follows from the definitions: a deadline of an accepted call is not held back, and a meter just made has no zeros, no gain and no job.
 use mathlib.Core.Path.{_≡_, refl}
 use mathlib.Core.Bool.{false}
 use Prim.Native.Nat.{ℕ, _+_, _-_, _<_, _≤_, _^_}
 use native.Mathlib.Omega.{arith}
 use borrow.Author.Tests.{lt-ltb}
-use lib.IntN.{pos}
 use lib.ListN.{replicate}
 use Rattle.numbers.specs.Binary32.{zeroF}
 use Rattle.tables.specs.Bounds.{atMost}

@@ -23,8 +23,8 @@ use Rattle.state.specs.declared.Ring.{Ring}
 use Rattle.state.specs.declared.Pw.{Pw}
 
 -- no time: the source's `None`
-abbrev pub never : Stamp
-never = record { set = false; at = 0 }
+abbrev pub noTime : Stamp
+noTime = record { set = false; at = 0 }
 
 abbrev pub freshMode : Mode
 freshMode = record { on = false; alt = false; coup = coupDc; dc = false; «cal_req» = false }
@@ -44,7 +44,7 @@ freshPowers = record { «p_tot» = zeroF; «s_last» = zeroF }
 
 -- `t_poll` is dmm.rs's: 0 before the first frame
 abbrev pub freshClock : Clock
-freshClock = record { run = true; «t_last» = never; «t_poll» = 0 }
+freshClock = record { run = true; «t_last» = noTime; «t_poll» = 0 }
 
 abbrev pub freshSettings : Settings
 freshSettings = record { comp = false; «r_path» = shuntOhm; «i_cont» = iContDefault; «t_lim» = tLimDefault; main = mainP }
@@ -107,7 +107,7 @@ newPw d c =
       powers = freshPowers;
       tally = freshTally;
       clock = freshClock;
-      «over_t0» = never;
+      «over_t0» = noTime;
       settings = freshSettings;
       «phase_cal» = freshPhaseCal;
       corrections = noCorrections;

@@ -1,5 +1,6 @@
 // The meter's state: `Pw` by value, made of one struct for each group of fields that change together,
-// under the source's names. All are laid out as in C, so that a C host can keep one.
+// under the source's names. All are laid out as in C, so that a C host can keep one. NEW is what each
+// holds in a meter just made.
 ghost use mathlib.Core.Path.{_≡_};
 ghost use Rattle.state.specs.Fresh.{newPw};
 ghost use Rattle.state.specs.Counting.{elapsed, deadline, countUp};
@@ -25,6 +26,10 @@ pub struct Stamp {
     pub at: u64,
 }
 
+impl Stamp {
+    pub const NONE: Stamp = Stamp { set: false, at: 0 };
+}
+
 // What the meter does: on, the alternating method, the coupling asked for, DC coupling in force, and
 // that the host is to re-apply.
 #[repr(C)]
@@ -36,6 +41,17 @@ pub struct Mode {
     pub cal_req: bool,
 }
 
+impl Mode {
+    // Off, method B, DC coupling asked for.
+    pub const NEW: Mode = Mode {
+        on: false,
+        alt: false,
+        coup: COUP_DC,
+        dc: false,
+        cal_req: false,
+    };
+}
+
 // The V range and the current range, and whether each is found by itself.
 #[repr(C)]
 pub struct Ranges {
@@ -45,10 +61,20 @@ pub struct Ranges {
     pub i_auto: bool,
 }
 
+impl Ranges {
+    // 1000 V and 10 A, both automatic.
+    pub const NEW: Ranges = Ranges {
+        vr: 3,
+        ik: 5,
+        v_auto: true,
+        i_auto: true,
+    };
+}
+
 // The phase; the results still to drop (`skip_y` those of the DC row's voltage); the results taken in
-// this phase of the alternating method; `stat`, which is R34 where the row is the power row, and
-// elsewhere only CYCLE's entry for the phase; and the quantities marked as measured (1 power, 2
-// voltage, 4 current), of which an apply clears those that it does not keep.
+// this phase of the alternating method; `stat`, which is R34 where the row is the power row (with
+// another row it is in no register); and the quantities marked as measured (1 power, 2 voltage, 4
+// current), of which an apply clears those that it does not keep.
 #[repr(C)]
 pub struct Cycle {
     pub phase: u8,
@@ -57,6 +83,17 @@ pub struct Cycle {
     pub taken: u8,
     pub stat: u8,
     pub seen: u8,
+}
+
+impl Cycle {
+    pub const NEW: Cycle = Cycle {
+        phase: 0,
+        skip: 0,
+        skip_y: 0,
+        taken: 0,
+        stat: R34_XY,
+        seen: 0,
+    };
 }
 
 // The three bits of `seen`.
@@ -77,11 +114,29 @@ pub struct Parts {
     pub vac_dc: f32,
 }
 
+impl Parts {
+    pub const NEW: Parts = Parts {
+        p_ac: 0.0,
+        v_ac: 0.0,
+        v_dc: 0.0,
+        i_ac: 0.0,
+        i_dc: 0.0,
+        vac_dc: 0.0,
+    };
+}
+
 // The powers of the next interval.
 #[repr(C)]
 pub struct Powers {
     pub p_tot: f32,
     pub s_last: f32,
+}
+
+impl Powers {
+    pub const NEW: Powers = Powers {
+        p_tot: 0.0,
+        s_last: 0.0,
+    };
 }
 
 // Whether energy is counted, the last accounted frame's time, and the last frame's.
@@ -92,6 +147,15 @@ pub struct Clock {
     pub t_poll: u64,
 }
 
+impl Clock {
+    // Energy is counted; no frame yet.
+    pub const NEW: Clock = Clock {
+        run: true,
+        t_last: Stamp::NONE,
+        t_poll: 0,
+    };
+}
+
 // What the order `settings` brings.
 #[repr(C)]
 pub struct Settings {
@@ -100,6 +164,16 @@ pub struct Settings {
     pub i_cont: f32,
     pub t_lim: u16,
     pub main: u8,
+}
+
+impl Settings {
+    pub const NEW: Settings = Settings {
+        comp: false,
+        r_path: SHUNT_OHM,
+        i_cont: I_CONT_DEFAULT,
+        t_lim: T_LIM_DEFAULT,
+        main: MAIN_P,
+    };
 }
 
 // The phase step in force (`sph`), and the phase calibration: 0 off, 1 or 2 for its two rounds; the
@@ -115,6 +189,18 @@ pub struct PhaseCal {
     pub cal_res: u8,
 }
 
+impl PhaseCal {
+    pub const NEW: PhaseCal = PhaseCal {
+        sph: 0,
+        cal: 0,
+        cal_n: 0,
+        cal_acc: 0.0,
+        cal_s0: 0,
+        cal_pa: 0.0,
+        cal_res: CAL_NONE,
+    };
+}
+
 // The stored zeros (`zx` and `zd` by current range) with their mark, and the stored gain of each V
 // range, 0.0 where the factory's counts.
 #[repr(C)]
@@ -124,6 +210,17 @@ pub struct Corrections {
     pub zy: i16,
     pub zero_ok: bool,
     pub vgain: [f32; 4],
+}
+
+impl Corrections {
+    // No zero and no gain stored.
+    pub const NEW: Corrections = Corrections {
+        zx: [0; 6],
+        zd: [0; 6],
+        zy: 0,
+        zero_ok: false,
+        vgain: [0.0; 4],
+    };
 }
 
 // The running job (0 none), what it has measured, and the ranges and marks found at its start.
@@ -147,6 +244,27 @@ pub struct Job {
     pub used: u8,
 }
 
+impl Job {
+    // No job.
+    pub const NEW: Job = Job {
+        job: 0,
+        job_step: 0,
+        job_n: 0,
+        job_a: 0.0,
+        job_b: 0.0,
+        job_dc: false,
+        job_raw: [0.0; 2],
+        job_ref: [0.0; 2],
+        job_zx: [0; 6],
+        job_zd: [0; 6],
+        job_save: Ranges::NEW,
+        job_res: JR_NONE,
+        job_vr: 0,
+        job_last: 0,
+        used: 0,
+    };
+}
+
 // The comparator's source and window, whether a frequency is to be had, and the V range that the
 // window was chosen for.
 #[repr(C)]
@@ -155,6 +273,16 @@ pub struct Comparator {
     pub r21: u8,
     pub f_ok: bool,
     pub cmp_vr: u8,
+}
+
+impl Comparator {
+    // The V tap with the default window, chosen for no V range yet.
+    pub const NEW: Comparator = Comparator {
+        r20: R20_SENSE,
+        r21: R21_DEFAULT,
+        f_ok: true,
+        cmp_vr: 255,
+    };
 }
 
 // The sixteen latest conversions, the one of number n at n modulo 16: which result it was, whether it
@@ -169,6 +297,18 @@ pub struct Ring {
     pub dt: [u16; 16],
     pub ring_k: u32,
     pub t_res: u64,
+}
+
+impl Ring {
+    pub const NEW: Ring = Ring {
+        stat: [0; 16],
+        disc: [false; 16],
+        rms: [0; 16],
+        lpf: [0; 16],
+        dt: [0; 16],
+        ring_k: 0,
+        t_res: 0,
+    };
 }
 
 // The whole meter. `barred` is 0 where nothing is barred, else the coarsest unit (1 mA, 2 uA) of a
@@ -209,107 +349,21 @@ impl Pw {
             words: [0; 73],
             valid: false,
         },
-        mode: Mode {
-            on: false,
-            alt: false,
-            coup: COUP_DC,
-            dc: false,
-            cal_req: false,
-        },
-        ranges: Ranges {
-            vr: 3,
-            ik: 5,
-            v_auto: true,
-            i_auto: true,
-        },
+        mode: Mode::NEW,
+        ranges: Ranges::NEW,
         barred: 0,
-        cycle: Cycle {
-            phase: 0,
-            skip: 0,
-            skip_y: 0,
-            taken: 0,
-            stat: R34_XY,
-            seen: 0,
-        },
-        parts: Parts {
-            p_ac: 0.0,
-            v_ac: 0.0,
-            v_dc: 0.0,
-            i_ac: 0.0,
-            i_dc: 0.0,
-            vac_dc: 0.0,
-        },
-        powers: Powers {
-            p_tot: 0.0,
-            s_last: 0.0,
-        },
+        cycle: Cycle::NEW,
+        parts: Parts::NEW,
+        powers: Powers::NEW,
         tally: Tally::ZERO,
-        clock: Clock {
-            run: true,
-            t_last: Stamp { set: false, at: 0 },
-            t_poll: 0,
-        },
-        over_t0: Stamp { set: false, at: 0 },
-        settings: Settings {
-            comp: false,
-            r_path: SHUNT_OHM,
-            i_cont: I_CONT_DEFAULT,
-            t_lim: T_LIM_DEFAULT,
-            main: MAIN_P,
-        },
-        phase_cal: PhaseCal {
-            sph: 0,
-            cal: 0,
-            cal_n: 0,
-            cal_acc: 0.0,
-            cal_s0: 0,
-            cal_pa: 0.0,
-            cal_res: CAL_NONE,
-        },
-        corrections: Corrections {
-            zx: [0; 6],
-            zd: [0; 6],
-            zy: 0,
-            zero_ok: false,
-            vgain: [0.0; 4],
-        },
-        job: Job {
-            job: 0,
-            job_step: 0,
-            job_n: 0,
-            job_a: 0.0,
-            job_b: 0.0,
-            job_dc: false,
-            job_raw: [0.0; 2],
-            job_ref: [0.0; 2],
-            job_zx: [0; 6],
-            job_zd: [0; 6],
-            job_save: Ranges {
-                vr: 3,
-                ik: 5,
-                v_auto: true,
-                i_auto: true,
-            },
-            job_res: JR_NONE,
-            job_vr: 0,
-            job_last: 0,
-            used: 0,
-        },
-        comparator: Comparator {
-            r20: R20_SENSE,
-            r21: R21_DEFAULT,
-            f_ok: true,
-            cmp_vr: 255,
-        },
-        ring: Ring {
-            stat: [0; 16],
-            disc: [false; 16],
-            rms: [0; 16],
-            lpf: [0; 16],
-            dt: [0; 16],
-            ring_k: 0,
-            t_res: 0,
-        },
+        clock: Clock::NEW,
+        over_t0: Stamp::NONE,
+        settings: Settings::NEW,
+        phase_cal: PhaseCal::NEW,
+        corrections: Corrections::NEW,
+        job: Job::NEW,
+        comparator: Comparator::NEW,
+        ring: Ring::NEW,
     };
 
     // A meter with this description and these words, just made: the source's `Pw::new`, and beside it

@@ -45,9 +45,9 @@ altVolts c vr root =
     let r = atMost 3 vr in
     maxOf (root *f (entryAt nan kAcv vr *f code) *f factor c (0x34 + 4 * r) -f offset c (0x44 + 4 * r)) zeroF
 
--- `(sq * s * cal(0xC4 + 4 ci) - cal(0xDC + 4 ci) * us).max(0.0)`
+-- `(sq * s * cal(0xC4 + 4 ci) - cal(0xDC + 4 ci) * us).max(0.0)`: the power row's AC amperes, less an offset
 unfoldable pub altAmps : Description → Calibration → ℕ → Float → Float
-altAmps d c ik root = maxOf (root *f iScale d ik *f gI c ik -f offset c (0xdc + 4 * calIndex ik) *f us (iuIr ik .iu)) zeroF
+altAmps d c ik root = maxOf (acAmps d c ik root -f offset c (0xdc + 4 * calIndex ik) *f us (iuIr ik .iu)) zeroF
 
 -- `lpf as f32 * s * cal(0xF4 + 4 ci) - cal(0x10C + 4 ci) * us`
 unfoldable pub altDcAmps : Description → Calibration → ℕ → ℤ → Float

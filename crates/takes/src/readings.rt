@@ -89,7 +89,7 @@ pub(crate) fn alt_amps(description: Description, calibration: Calibration, ik: u
     let u = iu_ir(ik);
     let off = offset(calibration, 0xDC + 4 * (ci as u32));
     numbers::max(
-        root * i_scale(description, ik) * g_i(calibration, ik) - off * us(u.iu),
+        ac_amps(description, calibration, ik, root) - off * us(u.iu),
         0.0,
     )
 }

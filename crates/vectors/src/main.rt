@@ -350,7 +350,7 @@ fn takes_rms(stat: u8, rms: i64) -> bool {
 }
 
 // Rows 91 to 94: document 01, XY RMS 2^36 is taken and 2^36 + 1 turned down, and so below zero. Rows 95
-// to 98: where the published Rust's root of XX (80 hex) and YY (8C hex) exceeds 262,144.
+// to 98: where the root, as decided, of XX (80 hex) and YY (8C hex) exceeds 262,144.
 fn limit_rows(s: Score) -> Score {
     let mut s = s;
     s = row(s, 91, takes_rms(0x88, 68719476736));

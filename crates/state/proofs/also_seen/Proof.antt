@@ -3,7 +3,7 @@ use mathlib.Core.Path.{_∙_, sym}
 use native.Mathlib.Omega.{arith}
 use borrow.Author.Needs.{needs}
 use Rattle.state.specs.Seen.{alsoSeen}
-use Rattle.state.proofs.Bits.{room}
+use Rattle.state.proofs.Bits.{still-fits}
 use Rattle.state.proofs.also_seen.Statement.{statement}
 use Rattle.state.proofs.also_seen.Tie as tie
 
@@ -20,7 +20,7 @@ bit-of-requires c κs = search needs
 add-result : tie.Need-add-result
 add-result c = let s = c .before .before .before .args .seen in
     let p = c .before .before .before .args .q in
-    omega (arith, c .bit-of .ensures, room s p (c .before .before .before .fits .seen .fits) (sym (c .before .before .has-seen .ensures) ∙ c .before .if1 .left))
+    omega (arith, c .bit-of .ensures, still-fits s p (c .before .before .before .fits .seen .fits) (sym (c .before .before .has-seen .ensures) ∙ c .before .if1 .left))
 
 returns-2 : tie.Need-returns-2
 unfolding alsoSeen

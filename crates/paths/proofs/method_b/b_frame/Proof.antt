@@ -1,4 +1,4 @@
--- Dropped, taken, or switched down.
+-- Dropped, taken, or turned down.
 use borrow.Author.Needs.{needs}
 use borrow.Author.Tests.{lt-ltb, le-ltb}
 use Rattle.paths.specs.MethodB.{bFrame}

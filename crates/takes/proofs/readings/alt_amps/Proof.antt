@@ -22,11 +22,8 @@ add-offset c = search needs
 offset-requires : tie.Need-offset-requires
 offset-requires c κs = search needs
 
-i-scale-requires : tie.Need-i-scale-requires
-i-scale-requires c κs = search needs
-
-g-i-requires : tie.Need-g-i-requires
-g-i-requires c κs = search needs
+ac-amps-requires : tie.Need-ac-amps-requires
+ac-amps-requires c κs = search needs
 
 us-requires : tie.Need-us-requires
 us-requires c κs = search needs
@@ -36,7 +33,7 @@ max-requires c κs = search needs
 
 returns : tie.Need-returns
 unfolding altAmps
-returns c = simp (c .max .ensures, c .before .us .ensures, c .before .before .g-i .ensures, c .before .before .before .i-scale .ensures, c .before .before .before .before .offset .ensures, c .before .before .before .before .before .iu-ir .ensures, c .before .before .before .before .before .before .cal-index .ensures)
+returns c = simp (c .max .ensures, c .before .us .ensures, c .before .before .ac-amps .ensures, c .before .before .before .offset .ensures, c .before .before .before .before .iu-ir .ensures, c .before .before .before .before .before .cal-index .ensures)
 
 pub alt-amps-spec : {M : Type 1} → statement M
 alt-amps-spec =
@@ -48,8 +45,7 @@ alt-amps-spec =
     mul-offset
     add-offset
     offset-requires
-    i-scale-requires
-    g-i-requires
+    ac-amps-requires
     us-requires
     max-requires
     returns)
