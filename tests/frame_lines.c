@@ -274,7 +274,7 @@ static void put_phase(void)
 /* ---- values just at the limit of a range ---- */
 
 /* From the range, with nothing seen and the DC row's first results dropped: one result. */
-static void put_probe(bool v, uint64_t range, bool automatic, int64_t code)
+static void put_frame_at(bool v, uint64_t range, bool automatic, int64_t code)
 {
     const char *form = v ? "ranges %" PRIu64 " %" PRIu64 " k" : "ranges %" PRIu64 " k %" PRIu64;
     put(form, later(), range);
@@ -287,7 +287,7 @@ static void put_probe(bool v, uint64_t range, bool automatic, int64_t code)
 
 /* A meter whose over ratio puts the limit at the value of a code, by the source's formulas of the
  * DC row, without words; then the codes about it. */
-static void put_edge(void)
+static void put_at_limit(void)
 {
     static const float i_lim[] = {600e-6f, 6e-3f, 0.06f, 0.6f, 6.0f, 10.0f};
     static const float unit[] = {1.0f, 1e-3f, 1e-6f};
@@ -305,7 +305,7 @@ static void put_edge(void)
     put("on %" PRIu64, later());
     bool automatic = v || chance(70);
     for (int64_t k = -1; k <= 1; k++)
-        put_probe(v, range, automatic, chance(50) ? code + k : -code - k);
+        put_frame_at(v, range, automatic, chance(50) ? code + k : -code - k);
 }
 
 /* ---- the script ---- */
@@ -349,7 +349,7 @@ int main(int argc, char **argv)
     left = strtoull(argv[2], NULL, 10);
     while (left > 0) {
         if (chance(80))
-            put_edge();
+            put_at_limit();
         else
             put_meter_and_calls();
     }

@@ -183,7 +183,7 @@ static bool tests_current(const struct call *c, uint8_t flags)
     return b->mode.alt ? c->mark.set && b->cycle.phase == 1 : b->cycle.stat == XX;
 }
 
-static void cover_ranges(const struct call *c, uint8_t flags)
+static void count_ranges(const struct call *c, uint8_t flags)
 {
     const struct leaf_ranges *b = &c->before.ranges, *a = &c->after.ranges;
     count(V_UP, a->vr > b->vr);
@@ -199,7 +199,7 @@ static void cover_ranges(const struct call *c, uint8_t flags)
                       && current < 0.09 * 0.06 / c->before.description.over);
 }
 
-static void cover_comparator(const struct call *c, uint8_t flags)
+static void count_comparator(const struct call *c, uint8_t flags)
 {
     const struct leaf_pw *b = &c->before, *a = &c->after;
     bool selected = !b->mode.dc && !b->mode.alt && went_on(c, flags) && b->cycle.stat != XY
@@ -209,7 +209,7 @@ static void cover_comparator(const struct call *c, uint8_t flags)
     count(NO_WINDOW, selected && !a->comparator.f_ok);
 }
 
-static void cover_results(const struct call *c, uint8_t flags)
+static void count_results(const struct call *c, uint8_t flags)
 {
     const struct leaf_pw *b = &c->before, *a = &c->after;
     bool dc = b->mode.dc, alt = b->mode.alt && !dc;
@@ -251,9 +251,9 @@ static void check_frame(const struct call *c)
     count(path, true);
     count(NOT_READY, !has(f.flags, RMS_LPF) && !(path == FRAMES_DC && has(f.flags, AD1)));
     count(READINGS, c->reading);
-    cover_ranges(c, f.flags);
-    cover_comparator(c, f.flags);
-    cover_results(c, f.flags);
+    count_ranges(c, f.flags);
+    count_comparator(c, f.flags);
+    count_results(c, f.flags);
 }
 
 /* ---- orders that are an apply ---- */

@@ -1,6 +1,6 @@
 /* test_state: a meter kept in C. leaf_pw_new gives what the published text's Pw::new has, what C
- * writes in a meter's fields is what the library reads and gives back, and the rules of leaf_frame
- * and leaf_apply that no order of the meter leads to.
+ * writes in a meter's fields is what the library reads and gives back, and leaf_frame and leaf_apply
+ * keep the source's rules in states that no order leads to.
  *
  * The last line counts the checks, and the status is 1 where one failed. */
 #include "fields.h"
@@ -97,7 +97,7 @@ static struct leaf_pw some_meter(uint64_t *state)
     return pw;
 }
 
-/* A frame that is not ready changes nothing. The DC row's is not where it has no AD1 either. */
+/* A frame that is not ready changes nothing. In DC coupling it has no AD1 either. */
 static void check_not_ready(uint64_t *state)
 {
     static const uint8_t flags[] = {0x00, 0x08, 0x10, 0xE3, 0xEB, 0xF3};
