@@ -120,7 +120,7 @@ float leaf_k_acv(uint8_t vr);
 float leaf_dcv_negk(uint8_t vr);
 float leaf_acv_win(uint8_t vr);
 float leaf_aca_win(uint8_t ci);
-uint8_t leaf_cycle(uint8_t phase);
+uint8_t leaf_cycle_at(uint8_t phase);
 
 /* Power, apparent and reactive power, factor, volts and amperes of the load, from the measured parts
  * and the resistance r of the path, whose burden is taken off. In binary32, rounded at each operation:
@@ -252,8 +252,9 @@ struct leaf_settings {
     uint8_t main;
 };
 
-/* The phase step in force (sph), and the phase calibration: 0 off, 1 or 2 for its two rounds; the
- * powers counted in this round and their sum; the step and the mean of round 1; the result. */
+/* The phase step in force (sph), and the phase calibration: 0 off, 1 or 2 for its two rounds; how
+ * many power results this round has counted, and the sum of their p / (v_ac * i_ac); the step and
+ * the mean of round 1; the result. */
 struct leaf_phase_cal {
     int8_t sph;
     uint8_t cal;
@@ -294,7 +295,7 @@ struct leaf_job {
     uint8_t used;
 };
 
-/* The comparator's source and window, whether a frequency is to be had, and the V range that the
+/* The comparator's source (R20 without its counter's bit, 02h) and window (R21), whether a frequency is to be had, and the V range that the
  * window was chosen for. */
 struct leaf_comparator {
     uint8_t r20;
@@ -303,9 +304,10 @@ struct leaf_comparator {
     uint8_t cmp_vr;
 };
 
-/* The sixteen latest conversions, the one of number n at n modulo 16: which result it was,
- * whether it was dropped, its codes, and the ms since the RMS and LPF result before it (0 for
- * AD1). ring_k is the next number, t_res the last RMS and LPF result's time. */
+/* The sixteen latest conversions, the one of number n at n modulo 16: which result it was (R34 in
+ * method B; 1 and 2 the alternating voltage and current; 3 and 4 the DC row's, where AD1 stands in
+ * lpf), whether it was dropped, its codes, and the ms since the RMS and LPF result before it, held
+ * to 65535 (0 for AD1). ring_k is the next number, t_res the last RMS and LPF result's time. */
 enum { LEAF_RING = 16 };
 struct leaf_ring {
     uint8_t stat[LEAF_RING];
@@ -340,17 +342,18 @@ struct leaf_pw {
     struct leaf_ring ring;
 };
 
-/* A meter with this description and these words, just made: off, and all else as the source's
- * Pw::new has it. Neither is refused here. */
+/* A meter with this description and these words, just made: the source's Pw::new, and beside it
+ * nothing barred, no frame yet, and no ready frame used. Neither is refused here. */
 struct leaf_pw leaf_pw_new(struct leaf_description d, struct leaf_calibration c);
 
-/* The meter after a measuring step. `mark` is set where the host is to write the row, and then is
- * the deadline: the call's time and the settling time, held to the end of 64 bits. `accounts`
- * says whether the source goes on to its values and to the accounting step. */
-struct leaf_measured {
+/* The meter after a measuring step. `mark` is set where the host is to write the row at once, and
+ * then is the deadline: the call's time and the settling time, held to the end of 64 bits.
+ * `to_values` says whether the source goes on to pw_vals, which may still answer none (not all of
+ * `seen` marked); then nothing is accounted. */
+struct leaf_outcome {
     struct leaf_pw pw;
     struct leaf_stamp mark;
-    bool accounts;
+    bool to_values;
 };
 
 /* What one frame does to the meter outside a job, up to the accounting step, which is not in it:
@@ -358,12 +361,13 @@ struct leaf_measured {
  * frame's time, ad1, lpf and rms are its codes. It tests neither `on` nor the job. The
  * description, the words, the mode, powers, tally, clock, over_t0, settings, corrections, job,
  * and of the phase calibration all but cal_n and cal_acc come back as they were. */
-struct leaf_measured leaf_frame(struct leaf_pw pw, uint64_t now, uint8_t flags, int32_t ad1,
+struct leaf_outcome leaf_frame(struct leaf_pw pw, uint64_t now, uint8_t flags, int32_t ad1,
                                 int32_t lpf, int64_t rms);
 
 /* The source's pw_apply outside a job: the row of the ranges and the method is to be written
  * anew, and the phases start again. Keep 2 keeps the voltage's part of `seen`, 4 the current's,
- * any other number none. Only the cycle and the comparator change, and `accounts` is no. */
-struct leaf_measured leaf_apply(struct leaf_pw pw, uint8_t keep, uint64_t now);
+ * any other number none. Only the cycle and the comparator change; `mark` is set always, and
+ * `to_values` is no. */
+struct leaf_outcome leaf_apply(struct leaf_pw pw, uint8_t keep, uint64_t now);
 
 #endif

@@ -76,13 +76,13 @@ static bool same_flag(const char *name, bool expected, bool got)
     return expected == got;
 }
 
-static void compare(const struct leaf_measured *expected, const struct leaf_measured *got)
+static void compare(const struct leaf_outcome *expected, const struct leaf_outcome *got)
 {
     size_t most = differ < MOST_SHOWN ? MOST_SHOWN : 0;
     size_t values = differences(&expected->pw, &got->pw, what, most);
     bool mark = same_mark(expected->mark, got->mark);
-    bool accounts = same_flag("accounts", expected->accounts, got->accounts);
-    differ += values == 0 && mark && accounts ? 0 : 1;
+    bool to_values = same_flag("to_values", expected->to_values, got->to_values);
+    differ += values == 0 && mark && to_values ? 0 : 1;
 }
 
 /* ---- frames ---- */
@@ -154,9 +154,9 @@ static bool cal_full(const struct call *c)
 }
 
 /* What leaf_frame is to leave: what the dump after the frame shows, and all else as handed in. */
-static struct leaf_measured expected_frame(const struct call *c, uint8_t flags)
+static struct leaf_outcome expected_frame(const struct call *c, uint8_t flags)
 {
-    struct leaf_measured e = {c->before, c->mark, went_on(c, flags)};
+    struct leaf_outcome e = {c->before, c->mark, went_on(c, flags)};
     for (const struct field *f = fields; f < fields + FIELDS; f++)
         for (size_t k = 0; f->role == SHOWN && k < f->count; k++)
             set_value(&e.pw, f, k, value_of(&c->after, f, k));
@@ -239,12 +239,12 @@ static void check_frame(const struct call *c)
     if (c->before.job.job != 0)
         return;
     struct frame f = frame_of(c);
-    struct leaf_measured e = expected_frame(c, f.flags);
-    struct leaf_measured got = leaf_frame(c->before, f.now, f.flags, f.ad1, f.lpf, f.rms);
+    struct leaf_outcome e = expected_frame(c, f.flags);
+    struct leaf_outcome got = leaf_frame(c->before, f.now, f.flags, f.ad1, f.lpf, f.rms);
     if (cal_full(c))
         restore_eight(c, &e.pw, &got.pw);
     compare(&e, &got);
-    bool reading = got.accounts && is_complete(&got.pw);
+    bool reading = got.to_values && is_complete(&got.pw);
     differ += same_flag("a reading", c->reading, reading) ? 0 : 1;
     frames++;
     enum met path = c->before.mode.dc ? FRAMES_DC : c->before.mode.alt ? FRAMES_ALT : FRAMES_B;
@@ -344,14 +344,14 @@ static void check_order(const struct call *c, order *sets)
         return;
     if (!read_u64(c->words[1], &now))
         stop_at(c->line, "no time");
-    struct leaf_measured e = {c->after, c->mark, false}, got = leaf_apply(pw, keep, now);
+    struct leaf_outcome e = {c->after, c->mark, false}, got = leaf_apply(pw, keep, now);
     compare(&e, &got);
     applies++;
 }
 
 static void check_meter(const struct call *c)
 {
-    struct leaf_measured e = {c->after, {false, 0}, false}, got = e;
+    struct leaf_outcome e = {c->after, {false, 0}, false}, got = e;
     got.pw = leaf_pw_new(c->after.description, c->after.calibration);
     compare(&e, &got);
     count(METERS, true);

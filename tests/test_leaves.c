@@ -138,7 +138,7 @@ static void check_tables(void)
     check_table("acv_win", leaf_acv_win, acv_win, 4);
     check_table("aca_win", leaf_aca_win, aca_win, 6);
     for (unsigned k = 0; k < 256; k++)
-        expect(leaf_cycle((uint8_t)k) == cycle[k & 3], "cycle", k);
+        expect(leaf_cycle_at((uint8_t)k) == cycle[k & 3], "cycle", k);
 }
 
 static void check_ranges(uint64_t *state)

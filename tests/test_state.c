@@ -104,9 +104,9 @@ static void check_not_ready(uint64_t *state)
     struct leaf_pw pw = some_meter(state), copy = pw;
     uint64_t r = next(state);
     uint8_t f = flags[r % 6];
-    struct leaf_measured got = leaf_frame(copy, r, f, (int32_t)r, (int32_t)(r >> 8), (int64_t)r);
+    struct leaf_outcome got = leaf_frame(copy, r, f, (int32_t)r, (int32_t)(r >> 8), (int64_t)r);
     expect_same(&pw, &got.pw, "a frame that is not ready");
-    expect(!got.mark.set && !got.accounts, "no mark of a frame that is not ready");
+    expect(!got.mark.set && !got.to_values, "no mark of a frame that is not ready");
     expect_same(&pw, &copy, "a meter lent");
     got = leaf_frame(got.pw, r, f, 0, 0, 0);
     expect_same(&pw, &got.pw, "a meter that has come back once");
@@ -136,11 +136,11 @@ static void check_apply(uint64_t *state)
     if ((r & 64) != 0)
         pw.comparator.cmp_vr = pw.ranges.vr;
     struct leaf_pw expected = applied(pw, keep);
-    struct leaf_measured got = leaf_apply(pw, keep, now);
+    struct leaf_outcome got = leaf_apply(pw, keep, now);
     expect_same(&expected, &got.pw, "an apply");
     uint64_t deadline = now > UINT64_MAX - 550 ? UINT64_MAX : now + 550;
     expect(got.mark.set && got.mark.at == deadline, "the mark of an apply");
-    expect(!got.accounts, "an apply accounts nothing");
+    expect(!got.to_values, "an apply to_values nothing");
 }
 
 static void check_last_deadlines(uint64_t *state)
@@ -175,8 +175,8 @@ static void check_copies(uint64_t *state)
         memcpy(&copy, bytes, sizeof copy);
         uint64_t r = next(state);
         int32_t ad1 = (int32_t)(r & 0xFFFF), lpf = (int32_t)(r >> 16 & 0xFFFF);
-        struct leaf_measured one = leaf_frame(pw, now, 0x1C, ad1, lpf, (int64_t)(r >> 32));
-        struct leaf_measured other = leaf_frame(copy, now, 0x1C, ad1, lpf, (int64_t)(r >> 32));
+        struct leaf_outcome one = leaf_frame(pw, now, 0x1C, ad1, lpf, (int64_t)(r >> 32));
+        struct leaf_outcome other = leaf_frame(copy, now, 0x1C, ad1, lpf, (int64_t)(r >> 32));
         expect_same(&one.pw, &other.pw, "a copy");
         pw = one.pw;
     }
@@ -201,8 +201,8 @@ static void check_unmarked_zeros(uint64_t *state)
         other.corrections.zero_ok = false;
         memcpy(other.corrections.vgain, pw.corrections.vgain, sizeof pw.corrections.vgain);
         int32_t ad1 = (int32_t)(r >> 16 & 0xFFFF), lpf = (int32_t)(r >> 32 & 0x3FFF);
-        struct leaf_measured one = leaf_frame(pw, 1000, 0x1C, ad1, lpf, (int64_t)(r >> 34));
-        struct leaf_measured two = leaf_frame(other, 1000, 0x1C, ad1, lpf, (int64_t)(r >> 34));
+        struct leaf_outcome one = leaf_frame(pw, 1000, 0x1C, ad1, lpf, (int64_t)(r >> 34));
+        struct leaf_outcome two = leaf_frame(other, 1000, 0x1C, ad1, lpf, (int64_t)(r >> 34));
         one.pw.corrections = other.corrections;
         expect_same(&one.pw, &two.pw, "zeros without their mark");
     }
@@ -232,10 +232,10 @@ static void check_barred_floor(void)
     for (uint8_t barred = 0; barred < 3; barred++)
         for (uint8_t ik = 0; ik < 6; ik++) {
             struct leaf_pw pw = meter_in(ik, true, barred, 1.0f);
-            struct leaf_measured got = leaf_frame(pw, 1000, 0x04, 0, 0, 0);
+            struct leaf_outcome got = leaf_frame(pw, 1000, 0x04, 0, 0, 0);
             bool down = ik > floors[barred];
             expect(got.pw.ranges.ik == (down ? ik - 1 : ik), "the floor of what is barred");
-            expect(got.mark.set == down && got.accounts != down, "a mark where the range changes");
+            expect(got.mark.set == down && got.to_values != down, "a mark where the range changes");
         }
 }
 
@@ -246,10 +246,10 @@ static void check_barred_again(void)
     for (uint8_t barred = 0; barred < 3; barred++)
         for (uint8_t ik = 0; ik < 4; ik++) {
             struct leaf_pw pw = meter_in(ik, false, barred, 1.0f / 1048576.0f);
-            struct leaf_measured got = leaf_frame(pw, 1000, 0x04, 8388607, 0, 0);
+            struct leaf_outcome got = leaf_frame(pw, 1000, 0x04, 8388607, 0, 0);
             uint8_t unit = ik < 2 ? 2 : 1, least = barred == 0 || unit < barred ? unit : barred;
             expect(got.pw.ranges.ik == 5 && got.mark.set && got.mark.at == 1550, "a trip");
-            expect(got.pw.barred == least && !got.accounts, "what a trip bars");
+            expect(got.pw.barred == least && !got.to_values, "what a trip bars");
         }
 }
 

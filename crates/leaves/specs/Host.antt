@@ -43,7 +43,7 @@ keepOf keep = cond (eqb keep 2) Voltage (cond (eqb keep 4) Current Nothing)
 
 -- a meter after a frame, and after an apply, with the mark to the host
 abbrev pub measuredPw : Pw → Outcome → MeasuredPw
-measuredPw m o = record { pw = withMeasuring m (o .measuring); mark = o .mark; accounts = o .accounts }
+measuredPw m o = record { pw = withMeasuring m (o .measuring); mark = o .mark; «to_values» = o .«to_values» }
 
 abbrev pub appliedPw : Pw → Applied → MeasuredPw
 appliedPw m a =
@@ -68,5 +68,5 @@ appliedPw m a =
         ring = m .ring;
       };
       mark = record { set = true; at = a .deadline };
-      accounts = false;
+      «to_values» = false;
     }

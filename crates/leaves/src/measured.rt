@@ -12,12 +12,12 @@ use state::Stamp;
 use tables::calibration::Calibration;
 use tables::description::Description;
 
-// `struct leaf_measured`
+// `struct leaf_outcome`
 #[repr(C)]
 pub struct MeasuredPw {
     pub pw: Pw,
     pub mark: Stamp,
-    pub accounts: bool,
+    pub to_values: bool,
 }
 
 #[no_mangle]
@@ -47,7 +47,7 @@ pub extern "C" fn leaf_frame(
     MeasuredPw {
         pw: after,
         mark,
-        accounts: outcome.accounts,
+        to_values: outcome.to_values,
     }
 }
 
@@ -79,6 +79,6 @@ pub extern "C" fn leaf_apply(pw: Pw, keep: u8, now: u64) -> MeasuredPw
             set: true,
             at: applied.deadline,
         },
-        accounts: false,
+        to_values: false,
     }
 }

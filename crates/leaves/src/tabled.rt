@@ -175,7 +175,7 @@ pub extern "C" fn leaf_aca_win(ci: u8) -> f32
 }
 
 #[no_mangle]
-pub extern "C" fn leaf_cycle(phase: u8) -> u8
+pub extern "C" fn leaf_cycle_at(phase: u8) -> u8
     ensures { λ r. ⌜ r ≡ cycleAt phase ⌝ }
 {
     tables::lookups::cycle(phase)

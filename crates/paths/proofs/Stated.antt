@@ -1,26 +1,35 @@
--- What follows from the definitions: the ring notes every result, a result turned down changes nothing else, a V range that changes ends the DC path, a frame leaves the automatic marks, and ranges within the tables stay so.
-use mathlib.Core.Path.{_≡_, refl, _∙_}
+-- What follows from the definitions: the ring notes every RMS and LPF result, dropped or turned down too, and every AD1 result that is taken; a result turned down changes nothing else, a V range that changes ends the DC path, a frame leaves the automatic marks, ranges within the tables stay so, and of the phase calibration only the sum and its count change.
+use mathlib.Core.Path.{_≡_, refl, ap, _∙_}
 use mathlib.Core.Bool.{Bool, true, false, cond}
 use Prim.Native.Nat.{ℕ, _+_, _%_}
+use native.Mathlib.Omega.{arith}
 use lib.Dec.{eqb, ltb}
+use lib.IntN.{pos}
+use lib.ListN.{length, getD}
+use lib.Seq.{getD-set-same, getD-set-other}
 use Rattle.codes.specs.declared.Codes.{Codes}
 use Rattle.codes.specs.Flags.{holdsAd1, holdsRmsLpf}
 use Rattle.tables.specs.Constants.{r34Xy, r34Yy, altN}
 use Rattle.tables.specs.declared.description.Description.{Description}
 use Rattle.state.specs.declared.Mode.{Mode}
 use Rattle.state.specs.declared.Parts.{Parts}
+use Rattle.state.specs.declared.PhaseCal.{PhaseCal}
 use Rattle.state.specs.declared.Pw.{Pw}
+use Rattle.state.specs.declared.Ring.{Ring}
 use Rattle.state.specs.declared.Ranges.{Ranges}
 use Rattle.state.specs.Counting.{countUp}
 use Rattle.takes.specs.declared.scales.Instrument.{Instrument}
-use Rattle.takes.specs.Take.{take, takeAlt, dcVTaken, dcITaken}
+use Rattle.takes.specs.Take.{take, takeAlt, dcVTaken, dcITaken, PhaseKept}
+use Rattle.takes.proofs.Stated.{take-keeps-phase, alt-keeps-phase, dc-keeps-phase}
 use Rattle.ranging.specs.declared.autorange.Ranging.{Ranging}
 use Rattle.ranging.specs.declared.autorange.Ranged.{Ranged}
+use Rattle.ranging.specs.Bounds.{InBounds}
 use Rattle.ranging.specs.Autorange.{autorangeV, autorangeI}
-use Rattle.ranging.proofs.Stated.{v-leaves, i-leaves, InBounds, v-bounds, i-bounds}
+use Rattle.ranging.proofs.Stated.{v-leaves, i-leaves, v-bounds, i-bounds}
 use Rattle.paths.specs.declared.measuring.Measuring.{Measuring}
 use Rattle.paths.specs.declared.measuring.Outcome.{Outcome}
-use Rattle.paths.specs.Ring.{noteResult, noteCurrent}
+use Rattle.paths.specs.declared.ring.Raw.{Raw}
+use Rattle.paths.specs.Ring.{noted, noteResult, noteCurrent}
 use Rattle.paths.specs.Measuring.{ends, goesOn, withTaken, withCycle, withRing, measuredIn, withMeasured, rangingIn, rangedTo}
 use Rattle.paths.specs.MethodB.{bAutorange, bUnranged, bNext, bFrame}
 use Rattle.paths.specs.Alternating.{altAutorange, switched, altPhaseDone, altNext, altFrame}
@@ -74,6 +83,23 @@ module _ (w : Instrument) (mode : Mode) (codes : Codes) (now : ℕ) (m : Measuri
       let n = withMeasured (withRing m r) (dcVTaken w (m .ranges .vr) codes (measuredIn (withRing m r))) in
       let P : Outcome → Type 0 = λ o. o .measuring .ring ≡ r in
       either P disc _ _ refl (either P (autorangeV (w .description) mode (n .parts) (rangingIn n) now .mark .set) _ _ refl refl)
+
+  -- the current's part of it: a result that is taken, and not one that is dropped
+  pub dc-i-notes : (flags : ℕ) → holdsAd1 flags ≡ true → ltb 0 (m .cycle .skip) ≡ false → dcIPart w mode flags codes now m .measuring .ring ≡ noteCurrent (m .ring) (codes .ad1)
+  unfolding dcIPart dcIResult goesOn rangedTo withMeasured
+  dc-i-notes flags ready taken =
+      let n = withMeasured (withRing m (noteCurrent (m .ring) (codes .ad1))) (dcITaken w (m .ranges .ik) codes (measuredIn m)) in
+      let P : Outcome → Type 0 = λ o. o .measuring .ring ≡ noteCurrent (m .ring) (codes .ad1) in
+      rw (ready, taken) (either P (autorangeI (w .description) mode (n .parts) (rangingIn n) now .mark .set) _ _ refl refl)
+
+  pub dc-i-drops : (flags : ℕ) → holdsAd1 flags ≡ true → ltb 0 (m .cycle .skip) ≡ true → dcIPart w mode flags codes now m .measuring .ring ≡ m .ring
+  unfolding dcIPart ends
+  dc-i-drops flags ready dropped = rw (ready, dropped)
+
+  -- ---- document 01: "single writes of R34 and R21 give no mark"
+  pub next-phase-unmarked : bUnranged w m .mark .set ≡ false
+  unfolding bUnranged goesOn
+  next-phase-unmarked = refl
 
   -- ---- a result turned down changes nothing but the ring
   pub down-changes-ring : ltb 0 (m .cycle .skip) ≡ false → take w (m .ranges) (m .cycle .stat) codes (measuredIn m) .accepted ≡ false
@@ -189,11 +215,78 @@ module _ (w : Instrument) (mode : Mode) (codes : Codes) (now flags : ℕ) (m : M
       (λ d mo p g t h. let l = i-leaves d mo p g t in (l .0 ∙ h .0, l .1 ∙ h .1))
       w mode codes now flags m (refl, refl)
 
-  -- ---- ranges within the tables, and a barred unit mA or uA, stay so
+  -- ---- ranges within the tables, and what is barred none, mA or uA, stay so
   pub bounds-stay : InBounds (m .ranges) (m .barred) → let o = frame w mode flags codes now m .measuring in InBounds (o .ranges) (o .barred)
   bounds-stay h =
       frame-keeps InBounds v-bounds i-bounds
       w mode codes now flags m h
+
+-- ---- of the phase calibration a frame changes the sum and its count alone
+module _ (w : Instrument) (mode : Mode) (codes : Codes) (now : ℕ) where
+  same : (c : PhaseCal) → PhaseKept c c
+  same c = (refl, refl, refl, refl, refl)
+
+  b-phase : (m : Measuring) → PhaseKept (bFrame w mode codes now m .measuring .«phase_cal») (m .«phase_cal»)
+  unfolding bFrame bNext bUnranged ends goesOn rangedTo withMeasured measuredIn
+  b-phase m =
+      let disc = ltb 0 (m .cycle .skip) in
+      let t = take w (m .ranges) (m .cycle .stat) codes (measuredIn m) in
+      let n = withMeasured (withRing m (noteResult (m .ring) now (m .cycle .stat) disc codes)) (t .measured) in
+      let k = take-keeps-phase w (m .ranges) codes (measuredIn m) (m .cycle .stat) in
+      let P : Outcome → Type 0 = λ o. PhaseKept (o .measuring .«phase_cal») (m .«phase_cal») in
+      either P disc _ _ (same (m .«phase_cal»))
+      (either P (t .accepted) _ _
+      (either P (eqb (n .cycle .stat) r34Xy) _ _ k (either P (bAutorange w mode now n .mark .set) _ _ k k)) (same (m .«phase_cal»)))
+
+  alt-phase : (m : Measuring) → altFrame w mode codes now m .measuring .«phase_cal» ≡ m .«phase_cal»
+  unfolding altFrame altNext altPhaseDone switched ends goesOn rangedTo withMeasured measuredIn
+  alt-phase m =
+      let disc = ltb 0 (m .cycle .skip) in
+      let t = takeAlt w (m .ranges) (m .cycle .phase) codes (measuredIn m) in
+      let n = withMeasured (withRing m (noteResult (m .ring) now (1 + m .cycle .phase % 2) disc codes)) (t .measured) in
+      let c = countUp (n .cycle .taken) in
+      let k = alt-keeps-phase w (m .ranges) codes (measuredIn m) (m .cycle .phase) in
+      let P : Outcome → Type 0 = λ o. o .measuring .«phase_cal» ≡ m .«phase_cal» in
+      either P disc _ _ refl
+      (either P (t .accepted) _ _
+      (either P (ltb c altN) _ _ k (either P (altAutorange w mode now (withCycle n (withTaken (n .cycle) c)) .mark .set) _ _ k k)) refl)
+
+  dc-v-phase : (m : Measuring) → dcVPart w mode codes now m .measuring .«phase_cal» ≡ m .«phase_cal»
+  unfolding dcVPart dcVResult ends rangedTo withMeasured measuredIn
+  dc-v-phase m =
+      let disc = ltb 0 (m .cycle .«skip_y») in
+      let r = withRing m (noteResult (m .ring) now 3 disc codes) in
+      let n = withMeasured r (dcVTaken w (r .ranges .vr) codes (measuredIn r)) in
+      let k = dc-keeps-phase w (m .ranges) codes (measuredIn r) .0 in
+      let P : Outcome → Type 0 = λ o. o .measuring .«phase_cal» ≡ m .«phase_cal» in
+      either P disc _ _ refl (either P (autorangeV (w .description) mode (n .parts) (rangingIn n) now .mark .set) _ _ k k)
+
+  dc-i-phase : (flags : ℕ) (m : Measuring) → dcIPart w mode flags codes now m .measuring .«phase_cal» ≡ m .«phase_cal»
+  unfolding dcIPart dcIResult ends goesOn rangedTo withMeasured measuredIn
+  dc-i-phase flags m =
+      let n = withMeasured (withRing m (noteCurrent (m .ring) (codes .ad1))) (dcITaken w (m .ranges .ik) codes (measuredIn m)) in
+      let k = dc-keeps-phase w (m .ranges) codes (measuredIn m) .1 in
+      let P : Outcome → Type 0 = λ o. o .measuring .«phase_cal» ≡ m .«phase_cal» in
+      either P (holdsAd1 flags) _ _
+      (either P (ltb 0 (m .cycle .skip)) _ _ refl (either P (autorangeI (w .description) mode (n .parts) (rangingIn n) now .mark .set) _ _ k k)) refl
+
+  dc-phase : (flags : ℕ) (m : Measuring) → dcFrame w mode flags codes now m .measuring .«phase_cal» ≡ m .«phase_cal»
+  unfolding dcFrame
+  dc-phase flags m =
+      let v = dcVPart w mode codes now m in
+      let P : Outcome → Type 0 = λ o. o .measuring .«phase_cal» ≡ m .«phase_cal» in
+      either P (holdsRmsLpf flags) _ _ (either P (v .mark .set) _ _ (dc-v-phase m) (dc-i-phase flags (v .measuring) ∙ dc-v-phase m)) (dc-i-phase flags m)
+
+  kept : (a b : PhaseCal) → a ≡ b → PhaseKept a b
+  kept a b e = (ap (λ (c : PhaseCal). c .sph) e, ap (λ (c : PhaseCal). c .cal) e, ap (λ (c : PhaseCal). c .«cal_s0») e, ap (λ (c : PhaseCal). c .«cal_pa») e, ap (λ (c : PhaseCal). c .«cal_res») e)
+
+  pub phase-stays : (flags : ℕ) (m : Measuring) → PhaseKept (frame w mode flags codes now m .measuring .«phase_cal») (m .«phase_cal»)
+  unfolding frame ends
+  phase-stays flags m =
+      let P : Outcome → Type 0 = λ o. PhaseKept (o .measuring .«phase_cal») (m .«phase_cal») in
+      either P (mode .dc) _ _ (kept (dcFrame w mode flags codes now m .measuring .«phase_cal») (m .«phase_cal») (dc-phase flags m))
+      (either P (holdsRmsLpf flags) _ _
+      (either P (mode .alt) _ _ (kept (altFrame w mode codes now m .measuring .«phase_cal») (m .«phase_cal») (alt-phase m)) (b-phase m)) (same (m .«phase_cal»)))
 
 -- ---- a whole meter: what is put in is what is read, and nothing else moves
 pub read-back : (m : Pw) (x : Measuring) → measuringIn (withMeasuring m x) ≡ x
@@ -204,6 +297,21 @@ pub put-back : (m : Pw) → withMeasuring m (measuringIn m) ≡ m
 unfolding measuringIn withMeasuring
 put-back m = refl
 
+pub rest-stays : (m : Pw) (x : Measuring) → let n = withMeasuring m x in
+    (n .mode ≡ m .mode) × (n .powers ≡ m .powers) × (n .tally ≡ m .tally) × (n .clock ≡ m .clock) × (n .«over_t0» ≡ m .«over_t0») × (n .settings ≡ m .settings) × (n .job ≡ m .job)
+unfolding withMeasuring
+rest-stays m x = (refl, refl, refl, refl, refl, refl, refl)
+
 pub instrument-stays : (m : Pw) (x : Measuring) → instrumentIn (withMeasuring m x) ≡ instrumentIn m
 unfolding instrumentIn withMeasuring
 instrument-stays m x = refl
+
+-- ---- the ring: an entry is read back at its place, and every other place stays as it was
+module _ (r : Ring) (raw : Raw) where
+  pub entry-read : length (r .rms) ≡ 16 → getD (noted r raw .rms) (r .«ring_k» % 16) (pos 0) ≡ raw .rms
+  unfolding noted
+  entry-read whole = getD-set-same (r .rms) (r .«ring_k» % 16) (raw .rms) (pos 0) (omega (arith, whole))
+
+  pub entries-stay : (j : ℕ) → (j ≡ r .«ring_k» % 16 → ⊥) → getD (noted r raw .rms) j (pos 0) ≡ getD (r .rms) j (pos 0)
+  unfolding noted
+  entries-stay j other = getD-set-other (r .rms) (r .«ring_k» % 16) j (raw .rms) (pos 0) other

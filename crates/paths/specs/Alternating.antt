@@ -29,7 +29,7 @@ switched now m =
     record {
       measuring = withCycle m (altSwitch (m .cycle) now .cycle);
       mark = record { set = true; at = altSwitch (m .cycle) now .deadline };
-      accounts = true;
+      «to_values» = true;
     }
 
 -- the phase has its results

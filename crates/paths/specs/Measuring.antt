@@ -13,11 +13,11 @@ use Rattle.paths.specs.declared.measuring.Outcome.{Outcome}
 
 -- the frame ends here: no mark, and no values
 unfoldable pub ends : Measuring → Outcome
-ends m = record { measuring = m; mark = noTime; accounts = false }
+ends m = record { measuring = m; mark = noTime; «to_values» = false }
 
--- the source goes on to `pw_vals` and `pw_account`
+-- the source goes on to `pw_vals`, and where that answers values to `pw_account`
 unfoldable pub goesOn : Measuring → Outcome
-goesOn m = record { measuring = m; mark = noTime; accounts = true }
+goesOn m = record { measuring = m; mark = noTime; «to_values» = true }
 
 -- ---- one field replaced
 
@@ -81,7 +81,7 @@ rangedTo m r =
         ring = m .ring;
       };
       mark = r .mark;
-      accounts = false;
+      «to_values» = false;
     }
 
 -- a range that was applied ends the frame

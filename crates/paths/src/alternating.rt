@@ -49,7 +49,7 @@ fn switched(now: u64, before: Measuring) -> Outcome
             set: true,
             at: next.deadline,
         },
-        accounts: true,
+        to_values: true,
     }
 }
 

@@ -34,7 +34,7 @@ fn op_volts(description: Description, ik: u8, i_ac: f32) -> f32
     i_ac * shunt_ohm(u.iu) * mv_div(description, ik)
 }
 
-// The V tap with a window; else the current with the default one where that is large enough; else
+// The V tap with a window; else the current with the default one where its AC volts reach 25 mV; else
 // what was chosen before, and no frequency.
 fn chosen(window: Window, op: f32, before: Comparator) -> Comparator
     ensures { λ r. ⌜ r ≡ chosen window op before ⌝ }

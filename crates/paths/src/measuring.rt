@@ -24,13 +24,13 @@ pub struct Measuring {
     pub ring: Ring,
 }
 
-// What stands after the frame, the mark to the host, and whether the frame goes on to the values, and
-// with them to its accounting.
+// What stands after the frame, the mark to the host, and whether the source goes on to `pw_vals`; that
+// may still answer none (not all of `seen` marked), and then nothing is accounted.
 #[repr(C)]
 pub struct Outcome {
     pub measuring: Measuring,
     pub mark: Stamp,
-    pub accounts: bool,
+    pub to_values: bool,
 }
 
 // The frame ends: no mark, no values.
@@ -40,7 +40,7 @@ pub(crate) fn ends(measuring: Measuring) -> Outcome
     Outcome {
         measuring,
         mark: Stamp { set: false, at: 0 },
-        accounts: false,
+        to_values: false,
     }
 }
 
@@ -51,7 +51,7 @@ pub(crate) fn goes_on(measuring: Measuring) -> Outcome
     Outcome {
         measuring,
         mark: Stamp { set: false, at: 0 },
-        accounts: true,
+        to_values: true,
     }
 }
 
@@ -113,6 +113,6 @@ pub(crate) fn ranged_to(before: Measuring, ranged: Ranged) -> Outcome
     Outcome {
         measuring: after,
         mark,
-        accounts: false,
+        to_values: false,
     }
 }

@@ -12,6 +12,7 @@ use Rattle.tables.specs.Bounds.{atMost, entryAt}
 use Rattle.tables.specs.Constants.{vLim, iLim, cycleAt}
 use Rattle.tables.specs.Ranges.{iuIr}
 use Rattle.tables.proofs.Held.{at-most, iu-most}
+use Rattle.tables.specs.declared.calibration.Calibration.{Calibration}
 use Rattle.tables.specs.declared.description.Description.{Description}
 use Rattle.state.specs.declared.Comparator.{Comparator}
 use Rattle.state.specs.declared.Cycle.{Cycle}
@@ -19,6 +20,7 @@ use Rattle.state.specs.declared.Mode.{Mode}
 use Rattle.state.specs.declared.Quantity.the-variants as part
 use Rattle.state.specs.declared.Parts.{Parts}
 use Rattle.state.specs.declared.Ranges.{Ranges}
+use Rattle.state.specs.Fresh.{newPw}
 use Rattle.state.specs.Seen.{bitOf, hasSeen}
 use Rattle.ranging.specs.declared.apply.Keep.{Keep}
 use Rattle.ranging.specs.declared.apply.Keep.the-variants.{Nothing, Voltage, Current}
@@ -28,6 +30,7 @@ use Rattle.ranging.specs.declared.change.Change.the-variants.{Stays, To}
 use Rattle.ranging.specs.Apply.{bitIn, keptSeen, apply}
 use Rattle.ranging.specs.Change.{tenth, step, vChange, isOver, trips, barredAfter, leastIk, iChange}
 use Rattle.ranging.specs.Cycle.{advance, altSwitch}
+use Rattle.ranging.specs.Bounds.{InBounds}
 use Rattle.ranging.specs.Autorange.{stays, changedV, changedI, byChangeV, byChangeI, autorangeV, autorangeI}
 
 -- ---- an apply
@@ -113,7 +116,7 @@ pub auto-never-trips : (d : Description) (r : Ranges) (p : Parts) → r .«i_aut
 unfolding trips
 auto-never-trips d r p auto = rw auto
 
--- ---- ranges within the tables stay so, and a barred unit is mA or uA
+-- ---- ranges within the tables stay so, and what is barred is none, mA or uA
 
 abbrev Below : ℕ → Change → Type 0
 Below most Stays = Unit
@@ -155,9 +158,6 @@ barred-below barred ik h = go (eqb barred 0)
     go true = iu-most ik
     go false = omega (arith, at-most (iuIr ik .iu) barred, iu-most ik)
 
-abbrev pub InBounds : Ranges → ℕ → Type 0
-InBounds r barred = (r .vr ≤ 3) × (r .ik ≤ 5) × (barred ≤ 2)
-
 module _ (d : Description) (mode : Mode) (p : Parts) (g : Ranging) (now : ℕ) (h : InBounds (g .ranges) (g .barred)) where
   pub v-bounds : InBounds (autorangeV d mode p g now .ranging .ranges) (autorangeV d mode p g now .ranging .barred)
   unfolding autorangeV stays changedV
@@ -189,7 +189,7 @@ pub switch-stat : (c : Cycle) (now : ℕ) → let a = altSwitch c now .cycle in 
 unfolding altSwitch
 switch-stat c now = refl
 
--- what they leave: an advance all but phase, `stat` and the results to drop; a switch `seen` and `skip_y`
+-- what they leave: an advance all but phase, `stat` and `skip`; a switch `seen` and `skip_y`
 pub advance-leaves : (c : Cycle) → (advance c .seen ≡ c .seen) × (advance c .taken ≡ c .taken) × (advance c .«skip_y» ≡ c .«skip_y»)
 unfolding advance
 advance-leaves c = (refl, refl, refl)
@@ -197,3 +197,28 @@ advance-leaves c = (refl, refl, refl)
 pub switch-leaves : (c : Cycle) (now : ℕ) → let a = altSwitch c now .cycle in (a .seen ≡ c .seen) × (a .«skip_y» ≡ c .«skip_y»)
 unfolding altSwitch
 switch-leaves c now = (refl, refl)
+
+-- ---- a meter just made is within the tables
+pub new-in-bounds : (d : Description) (c : Calibration) → InBounds (newPw d c .ranges) (newPw d c .barred)
+unfolding newPw
+new-in-bounds d c = (omega arith, omega arith, omega arith)
+
+-- ---- document 01: "a trip sets it"; nothing else moves what is barred
+module _ (d : Description) (mode : Mode) (p : Parts) (g : Ranging) (now : ℕ) where
+  pub trip-does : trips d (g .ranges) p ≡ true → let a = autorangeI d mode p g now in
+      (a .ranging .ranges .ik ≡ 5) × (a .ranging .barred ≡ barredAfter (g .barred) (g .ranges .ik)) × (a .mark .set ≡ true)
+  unfolding autorangeI changedI
+  trip-does trip = (rw trip, rw trip, rw trip)
+
+  pub no-trip : trips d (g .ranges) p ≡ false → autorangeI d mode p g now .ranging .barred ≡ g .barred
+  unfolding autorangeI stays changedI
+  no-trip none = rw none (go (iChange d (g .ranges) (g .barred) p))
+    where
+      go : (asked : Change) → byChangeI mode g now asked .ranging .barred ≡ g .barred
+      go Stays = refl
+      go (To ik) = refl
+
+-- ---- an apply that keeps nothing marks nothing
+pub apply-keeps-nothing : (mode : Mode) (vr : ℕ) (c : Cycle) (k : Comparator) (now : ℕ) → apply Nothing mode vr c k now .cycle .seen ≡ 0
+unfolding apply keptSeen
+apply-keeps-nothing mode vr c k now = refl

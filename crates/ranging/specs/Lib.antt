@@ -2,3 +2,4 @@ pub mod Apply
 pub mod Change
 pub mod Autorange
 pub mod Cycle
+pub mod Bounds

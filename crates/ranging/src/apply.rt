@@ -1,5 +1,5 @@
-// The apply (the source's `pw_apply`): measuring starts over, but for a channel that is kept, and the
-// host writes the row at the mark.
+// The apply (the source's `pw_apply`): measuring starts over, but for a channel that is kept; the host
+// writes the row at once, and goes on at the deadline.
 ghost use mathlib.Core.Path.{_≡_};
 ghost use Rattle.ranging.specs.Apply.{phaseAfter, bitIn, keptSeen, skipAfter, comparatorFor, apply};
 use state::Comparator;
@@ -16,7 +16,7 @@ use tables::constants::R21_DEFAULT;
 use tables::constants::SETTLE_MS;
 use tables::lookups::cycle;
 
-// Which parts stay measured over an apply (the source's `keep`: 0, 2, 4).
+// Which channel's marks stay over an apply (the source's `keep`: 0, 2, 4).
 pub enum Keep {
     Nothing,
     Voltage,
@@ -49,18 +49,14 @@ fn phase_after(keep: Keep, mode: Mode) -> u8
     }
 }
 
-// The bit of a part in `seen`, 0 where it is not set.
-fn bit_in(seen: u8, part: Quantity) -> u8
-    ensures { λ r. ⌜ r ≡ bitIn seen part ⌝ }
+// The bit of a quantity in `seen`, 0 where it is not set.
+fn bit_in(seen: u8, q: Quantity) -> u8
+    ensures { λ r. ⌜ r ≡ bitIn seen q ⌝ }
 {
-    if has_seen(seen, part) {
-        bit_of(part)
-    } else {
-        0
-    }
+    if has_seen(seen, q) { bit_of(q) } else { 0 }
 }
 
-// The parts that stay measured; the power never does.
+// The marks that stay; the power's never does.
 fn kept_seen(keep: Keep, seen: u8) -> u8
     ensures { λ r. ⌜ r ≡ keptSeen keep seen ⌝ }
 {

@@ -10,13 +10,13 @@ use tables::lookups::v_lim;
 use tables::ranges::iu_ir;
 
 // The range stays, or becomes another.
-pub enum Change {
+pub(crate) enum Change {
     Stays,
     To(u8),
 }
 
 // One range up where m is above the range's limit by the over ratio, one down where it is below a
-// tenth of the limit by that ratio; not above `most`, and not below `least`.
+// tenth of the limit by that ratio; up only from below `most`, down only from above `least`.
 fn step(over: f32, limit: f32, m: f32, k: u8, least: u8, most: u8) -> Change
     ensures { λ r. ⌜ r ≡ step over limit m k least most ⌝ }
 {

@@ -1,4 +1,4 @@
--- What follows from the definitions: a deadline of an accepted call is not held back, and a meter just made has no zeros, no gain and no job.
+-- What follows from the definitions: a deadline of an accepted call is not held back, and a meter just made is off and has no zeros, no gain and no job.
 use mathlib.Core.Path.{_≡_, refl}
 use mathlib.Core.Bool.{false}
 use Prim.Native.Nat.{ℕ, _+_, _-_, _<_, _≤_, _^_}

@@ -1,4 +1,4 @@
--- `Pw::new` of the source: the meter just made. Three fields are not in the source's `Pw`: `t_poll` and `barred` are dmm.rs's, `used` is ours; docs/DECISIONS.md lists the fields of the source that nothing in scope reads.
+-- `Pw::new` of the source: the meter just made. Five fields are not in the source's `Pw`: `description` and `calibration` are what the meter is made with, `t_poll` and `barred` are dmm.rs's, `used` is ours; docs/DECISIONS.md lists the fields of the source that nothing in scope reads.
 use mathlib.Core.Bool.{true, false}
 use lib.IntN.{pos}
 use lib.ListN.{replicate}

@@ -27,7 +27,7 @@ pub struct Stamp {
 }
 
 impl Stamp {
-    pub const NONE: Stamp = Stamp { set: false, at: 0 };
+    const NONE: Stamp = Stamp { set: false, at: 0 };
 }
 
 // What the meter does: on, the alternating method, the coupling asked for, DC coupling in force, and
@@ -43,7 +43,7 @@ pub struct Mode {
 
 impl Mode {
     // Off, method B, DC coupling asked for.
-    pub const NEW: Mode = Mode {
+    const NEW: Mode = Mode {
         on: false,
         alt: false,
         coup: COUP_DC,
@@ -63,7 +63,7 @@ pub struct Ranges {
 
 impl Ranges {
     // 1000 V and 10 A, both automatic.
-    pub const NEW: Ranges = Ranges {
+    const NEW: Ranges = Ranges {
         vr: 3,
         ik: 5,
         v_auto: true,
@@ -86,7 +86,7 @@ pub struct Cycle {
 }
 
 impl Cycle {
-    pub const NEW: Cycle = Cycle {
+    const NEW: Cycle = Cycle {
         phase: 0,
         skip: 0,
         skip_y: 0,
@@ -115,7 +115,7 @@ pub struct Parts {
 }
 
 impl Parts {
-    pub const NEW: Parts = Parts {
+    const NEW: Parts = Parts {
         p_ac: 0.0,
         v_ac: 0.0,
         v_dc: 0.0,
@@ -133,7 +133,7 @@ pub struct Powers {
 }
 
 impl Powers {
-    pub const NEW: Powers = Powers {
+    const NEW: Powers = Powers {
         p_tot: 0.0,
         s_last: 0.0,
     };
@@ -149,7 +149,7 @@ pub struct Clock {
 
 impl Clock {
     // Energy is counted; no frame yet.
-    pub const NEW: Clock = Clock {
+    const NEW: Clock = Clock {
         run: true,
         t_last: Stamp::NONE,
         t_poll: 0,
@@ -167,7 +167,7 @@ pub struct Settings {
 }
 
 impl Settings {
-    pub const NEW: Settings = Settings {
+    const NEW: Settings = Settings {
         comp: false,
         r_path: SHUNT_OHM,
         i_cont: I_CONT_DEFAULT,
@@ -176,8 +176,9 @@ impl Settings {
     };
 }
 
-// The phase step in force (`sph`), and the phase calibration: 0 off, 1 or 2 for its two rounds; the
-// powers counted in this round and their sum; the step and the mean of round 1; the result.
+// The phase step in force (`sph`), and the phase calibration: 0 off, 1 or 2 for its two rounds; how
+// many power results this round has counted, and the sum of their p / (v_ac * i_ac); the step and the
+// mean of round 1; the result.
 #[repr(C)]
 pub struct PhaseCal {
     pub sph: i8,
@@ -190,7 +191,7 @@ pub struct PhaseCal {
 }
 
 impl PhaseCal {
-    pub const NEW: PhaseCal = PhaseCal {
+    const NEW: PhaseCal = PhaseCal {
         sph: 0,
         cal: 0,
         cal_n: 0,
@@ -214,7 +215,7 @@ pub struct Corrections {
 
 impl Corrections {
     // No zero and no gain stored.
-    pub const NEW: Corrections = Corrections {
+    const NEW: Corrections = Corrections {
         zx: [0; 6],
         zd: [0; 6],
         zy: 0,
@@ -246,7 +247,7 @@ pub struct Job {
 
 impl Job {
     // No job.
-    pub const NEW: Job = Job {
+    const NEW: Job = Job {
         job: 0,
         job_step: 0,
         job_n: 0,
@@ -265,8 +266,8 @@ impl Job {
     };
 }
 
-// The comparator's source and window, whether a frequency is to be had, and the V range that the
-// window was chosen for.
+// The comparator's source (R20 without its counter's bit, 02h) and window (R21), whether a frequency is
+// to be had, and the V range that the window was chosen for.
 #[repr(C)]
 pub struct Comparator {
     pub r20: u8,
@@ -277,7 +278,7 @@ pub struct Comparator {
 
 impl Comparator {
     // The V tap with the default window, chosen for no V range yet.
-    pub const NEW: Comparator = Comparator {
+    const NEW: Comparator = Comparator {
         r20: R20_SENSE,
         r21: R21_DEFAULT,
         f_ok: true,
@@ -285,9 +286,10 @@ impl Comparator {
     };
 }
 
-// The sixteen latest conversions, the one of number n at n modulo 16: which result it was, whether it
-// was dropped, its codes, and the ms since the RMS and LPF result before it (0 for AD1). `ring_k` is
-// the next number, `t_res` the last RMS and LPF result's time.
+// The sixteen latest conversions, the one of number n at n modulo 16: which result it was (R34 in method
+// B; 1 and 2 the alternating voltage and current; 3 and 4 the DC row's, where AD1 stands in `lpf`),
+// whether it was dropped, its codes, and the ms since the RMS and LPF result before it, held to 65535
+// (0 for AD1). `ring_k` is the next number, `t_res` the last RMS and LPF result's time.
 #[repr(C)]
 pub struct Ring {
     pub stat: [u8; 16],
@@ -300,7 +302,7 @@ pub struct Ring {
 }
 
 impl Ring {
-    pub const NEW: Ring = Ring {
+    const NEW: Ring = Ring {
         stat: [0; 16],
         disc: [false; 16],
         rms: [0; 16],

@@ -1,7 +1,7 @@
 -- What follows from the definitions: when a result is turned down, and what each take leaves as it was.
 use mathlib.Core.Path.{_≡_, refl}
 use mathlib.Core.Bool.{Bool, true, false, not, cond, _&&_, true≢false}
-use Prim.Native.Nat.{ℕ}
+use Prim.Native.Nat.{ℕ, _%_}
 use lib.Dec.{eqb}
 use lib.IntN.{pos}
 use lib.Ieee.{Float, lt}
@@ -18,7 +18,7 @@ use Rattle.takes.specs.declared.take.Measured.{Measured}
 use Rattle.takes.specs.declared.take.Taken.{Taken}
 use Rattle.takes.specs.Scales.{zeroX, zeroD, zeroY, rmsRoot}
 use Rattle.takes.specs.Parts.{xyParts, iParts, vParts, altVParts, dcVParts, dcIParts}
-use Rattle.takes.specs.Take.{turnedDown, accepted, xyTooLarge, rootTooLarge, oneMore, phaseCounted, takeXy, takeXx, takeYy, take, takeAlt}
+use Rattle.takes.specs.Take.{turnedDown, accepted, xyTooLarge, rootTooLarge, oneMore, phaseCounted, takeXy, takeXx, takeYy, take, takeAltV, takeAltI, takeAlt, dcVTaken, dcITaken, PhaseKept}
 
 -- ---- document 01: "XY is turned down when |RMS| > 2^36; XX and YY when the computed root exceeds 262,144"
 
@@ -99,19 +99,50 @@ module _ (seen : ℕ) (x y : Float) (p : Parts) where
   unfolding dcIParts
   dc-i-leaves ik = (refl, refl, refl)
 
--- ---- what each take leaves of the phase calibration
+-- ---- what each take leaves of the phase calibration: only the sum and its count ever change
 
--- only the sum and its count ever change
-abbrev Kept : PhaseCal → PhaseCal → Type 0
-Kept a b = (a .sph ≡ b .sph) × (a .cal ≡ b .cal) × (a .«cal_s0» ≡ b .«cal_s0») × (a .«cal_pa» ≡ b .«cal_pa») × (a .«cal_res» ≡ b .«cal_res»)
-
-pub phase-leaves : (c : PhaseCal) (p : Float) (seen : ℕ) (parts : Parts) → Kept (phaseCounted c p seen parts) c
+pub phase-leaves : (c : PhaseCal) (p : Float) (seen : ℕ) (parts : Parts) → PhaseKept (phaseCounted c p seen parts) c
 unfolding phaseCounted
 phase-leaves c p seen parts = go (not (eqb (c .cal) 0) && bothSeen seen && lt zeroF (parts .«v_ac» *f parts .«i_ac»))
   where
-    go : (t : Bool) → Kept (cond t (oneMore c p (parts .«v_ac» *f parts .«i_ac»)) c) c
+    go : (t : Bool) → PhaseKept (cond t (oneMore c p (parts .«v_ac» *f parts .«i_ac»)) c) c
     go true = (refl, refl, refl, refl, refl)
     go false = (refl, refl, refl, refl, refl)
+
+same : (c : PhaseCal) → PhaseKept c c
+same c = (refl, refl, refl, refl, refl)
+
+-- of two answers, each of which keeps it
+either : (t : Bool) (c : PhaseCal) (x y : Taken) → PhaseKept (x .measured .«phase_cal») c → PhaseKept (y .measured .«phase_cal») c → PhaseKept (cond t x y .measured .«phase_cal») c
+either true c x y f g = f
+either false c x y f g = g
+
+module _ (w : Instrument) (r : Ranges) (codes : Codes) (m : Measured) where
+  pub take-keeps-phase : (stat : ℕ) → PhaseKept (take w r stat codes m .measured .«phase_cal») (m .«phase_cal»)
+  unfolding take takeXy takeXx takeYy
+  take-keeps-phase stat =
+      let c = m .«phase_cal» in
+      either (eqb stat r34Xy) c _ _ (either (xyTooLarge (codes .rms)) c _ _ (same c) (phase-leaves c _ _ _))
+      (either (eqb stat r34Xx) c _ _ (either (rootTooLarge (rmsRoot (codes .rms))) c _ _ (same c) (same c))
+      (either (eqb stat r34Yy) c _ _ (either (rootTooLarge (rmsRoot (codes .rms))) c _ _ (same c) (same c)) (same c)))
+
+  pub alt-keeps-phase : (phase : ℕ) → takeAlt w r phase codes m .measured .«phase_cal» ≡ m .«phase_cal»
+  unfolding takeAlt takeAltV takeAltI
+  alt-keeps-phase phase = go (rootTooLarge (rmsRoot (codes .rms))) (eqb (phase % 2) 0)
+    where
+      go : (down even : Bool) → cond down (turnedDown m) (accepted (cond even (takeAltV w (r .vr) (rmsRoot (codes .rms)) m) (takeAltI w (r .ik) (rmsRoot (codes .rms)) (codes .lpf) m))) .measured .«phase_cal» ≡ m .«phase_cal»
+      go true even = refl
+      go false true = refl
+      go false false = refl
+
+  pub dc-keeps-phase : (dcVTaken w (r .vr) codes m .«phase_cal» ≡ m .«phase_cal») × (dcITaken w (r .ik) codes m .«phase_cal» ≡ m .«phase_cal»)
+  unfolding dcVTaken dcITaken
+  dc-keeps-phase = (refl, refl)
+
+  -- ---- each R34 has its own take; any other is turned down
+  pub by-stat : (take w r r34Xy codes m ≡ takeXy w r codes m) × (take w r r34Xx codes m ≡ takeXx w (r .ik) codes m) × (take w r r34Yy codes m ≡ takeYy w (r .vr) codes m)
+  unfolding take
+  by-stat = (refl, refl, refl)
 
 -- ---- while no zero is stored, each counts as 0
 module _ (c : Corrections) (none : c .«zero_ok» ≡ false) (ik : ℕ) where

@@ -1,5 +1,6 @@
 -- One result: turned down, or taken. Document 01: "XY is turned down when |RMS| > 2^36; XX and YY when the computed root exceeds 262,144". The source: `pw_take`, `pw_take_alt`, and the two halves of `pw_poll_dc`,
 -- which turns nothing down.
+use mathlib.Core.Path.{_≡_}
 use mathlib.Core.Bool.{Bool, true, false, not, cond, _&&_}
 use Prim.Native.Nat.{ℕ, _%_, _^_}
 use lib.Dec.{ltb, eqb}
@@ -32,9 +33,13 @@ accepted m = record { accepted = true; measured = m }
 unfoldable pub xyTooLarge : ℤ → Bool
 xyTooLarge rms = ltb (2 ^ 36) (natAbs rms)
 
+-- 262_144.0
+abbrev pub rootMost : Float
+rootMost = ofBits binary32 0x4880_0000
+
 -- `sq > 262_144.0`
 unfoldable pub rootTooLarge : Float → Bool
-rootTooLarge root = lt (ofBits binary32 0x4880_0000) root
+rootTooLarge root = lt rootMost root
 
 -- ---- method B
 
@@ -73,7 +78,7 @@ takeXy w r codes m =
     cond (xyTooLarge (codes .rms)) (turnedDown m)
     (accepted (xyMeasured r (power w r (codes .rms)) (dcAmps w (r .ik) (codes .lpf)) m))
 
--- parts and a part seen; the phase calibration stays
+-- parts and marks after a result; the phase calibration stays
 abbrev pub measuredTo : Parts → ℕ → Measured → Measured
 measuredTo parts seen m = record { parts = parts; seen = seen; «phase_cal» = m .«phase_cal» }
 
@@ -133,3 +138,7 @@ seenWithPower seen = cond (bothSeen seen) (alsoSeen seen Power) seen
 unfoldable pub dcITaken : Instrument → ℕ → Codes → Measured → Measured
 dcITaken w ik codes m =
     measuredTo (dcIParts ik (m .seen) (ad1Amps w ik (codes .ad1)) (m .parts)) (seenWithPower (alsoSeen (m .seen) Current)) m
+
+-- ---- what every take keeps of the phase calibration: all but the sum and its count
+abbrev pub PhaseKept : PhaseCal → PhaseCal → Type 0
+PhaseKept a b = (a .sph ≡ b .sph) × (a .cal ≡ b .cal) × (a .«cal_s0» ≡ b .«cal_s0») × (a .«cal_pa» ≡ b .«cal_pa») × (a .«cal_res» ≡ b .«cal_res»)
