@@ -92,7 +92,7 @@ pub(crate) fn barred_after(barred: u8, ik: u8) -> u8
     if barred == 0 {
         return u.iu;
     }
-    at_most(u.iu, barred)
+    if barred < u.iu { barred } else { u.iu }
 }
 
 // The least current range that is not barred.

@@ -12,7 +12,7 @@ enum-told c = search needs
 
 returns : tie.Need-returns
 unfolding chosen
-returns c = rw (c .before .enum-told .given .1, c .if1 .taken)
+returns c = simp (c .before .enum-told .given .1, c .if1 .taken)
 
 returns-2 : tie.Need-returns-2
 unfolding chosen
@@ -20,7 +20,7 @@ returns-2 c = rw (c .before .window .given .1)
 
 returns-3 : tie.Need-returns-3
 unfolding chosen
-returns-3 c = rw (c .before .enum-told .given .1, c .if1 .left)
+returns-3 c = simp (c .before .enum-told .given .1, c .if1 .left)
 
 pub chosen-spec : {M : Type 1} → statement M
 chosen-spec = tie.close (tie.spec enum-known-window enum-told returns returns-2 returns-3)

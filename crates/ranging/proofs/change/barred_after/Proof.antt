@@ -1,6 +1,11 @@
--- None barred before, or the lesser of the two.
+-- Nothing barred, a coarser unit barred before, or not.
+use mathlib.Core.Path.{_∙_, ap}
+use native.Mathlib.Omega.{arith}
 use borrow.Author.Needs.{needs}
-use borrow.Author.Tests.{eq-eqb, ne-eqb}
+use borrow.Author.Tests.{lt-ltb, le-ltb, eq-eqb, ne-eqb}
+use Rattle.tables.specs.Bounds.{atMost}
+use Rattle.tables.specs.Ranges.{iuIr}
+use Rattle.tables.specs.declared.ranges.IuIr.{IuIr}
 use Rattle.ranging.specs.Change.{barredAfter}
 use Rattle.ranging.proofs.change.barred_after.Statement.{statement}
 use Rattle.ranging.proofs.change.barred_after.Tie as tie
@@ -12,12 +17,17 @@ returns : tie.Need-returns
 unfolding barredAfter
 returns c = simp (c .before .iu-ir .ensures, eq-eqb _ _ (c .if1 .taken))
 
-at-most-requires : tie.Need-at-most-requires
-at-most-requires c κs = search needs
-
 returns-2 : tie.Need-returns-2
-unfolding barredAfter
-returns-2 c = simp (c .at-most .ensures, c .before .before .iu-ir .ensures, ne-eqb _ _ (c .before .if1 .left))
+unfolding barredAfter atMost
+returns-2 c = let e = ap (λ (u : IuIr). u .iu) (c .before .before .before .iu-ir .ensures) in
+    let a = c .before .before .before .before .args in
+    rw (ne-eqb _ _ (c .before .before .if1 .left), lt-ltb (a .barred) (iuIr (a .ik) .iu) (omega (arith, c .if2 .taken, e)))
+
+returns-3 : tie.Need-returns-3
+unfolding barredAfter atMost
+returns-3 c = let e = ap (λ (u : IuIr). u .iu) (c .before .before .before .iu-ir .ensures) in
+    let a = c .before .before .before .before .args in
+    e ∙ rw (ne-eqb _ _ (c .before .before .if1 .left), le-ltb (a .barred) (iuIr (a .ik) .iu) (omega (arith, c .if2 .left, e)))
 
 pub barred-after-spec : {M : Type 1} → statement M
-barred-after-spec = tie.close (tie.spec iu-ir-requires returns at-most-requires returns-2)
+barred-after-spec = tie.close (tie.spec iu-ir-requires returns returns-2 returns-3)
