@@ -18,7 +18,10 @@ LIBRARIES = target/staticlib
 PW = include/pw.h $(LIBRARIES)/libpw.a
 LEAVES = host/leaves.h $(LIBRARIES)/libleaves.a
 PWSCRIPT = host/pwscript.c host/words.c host/words.h
-FRAMES = tests/frames.c tests/transcript.c tests/transcript.h tests/fields.h tests/bits.h host/words.c host/words.h
+FRAMES = tests/frames.c tests/values.c tests/values.h tests/transcript.c tests/transcript.h tests/cases.h \
+	tests/shown.h tests/fields.h tests/bits.h host/words.c host/words.h include/pw.h
+VALUES = tests/test_values.c tests/value_rule.h tests/meters.h tests/shown.h tests/fields.h tests/floats.h tests/bits.h
+READOUTS = tests/test_readouts.c tests/formats.h tests/shown.h tests/fields.h tests/floats.h tests/bits.h include/pw.h
 COMPILE = @mkdir -p $(@D) && echo "$(CC) $@" && $(CC) $(CFLAGS)
 INPUTS = $(filter %.c %.a,$^)
 
@@ -30,15 +33,15 @@ run: build/pwscript
 	build/pwscript --echo < tests/example.script
 
 # All that the gate's host tests run.
-host: build/pwscript build/figure_lines build/test_pw build/test_leaves build/test_figures \
-	build/test_state build/frames build/frame_lines \
+host: build/pwscript build/figure_lines build/value_lines build/test_pw build/test_leaves build/test_figures \
+	build/test_state build/test_values build/test_readouts build/frames build/frame_lines \
 	build/sanitized/pwscript build/sanitized/test_pw build/sanitized/test_leaves build/sanitized/test_figures \
-	build/sanitized/test_state build/sanitized/frames
+	build/sanitized/test_state build/sanitized/test_values build/sanitized/test_readouts build/sanitized/frames
 
 test:
 	bash .ci/run
 
-compare: build/pwscript build/figure_lines build/frames build/frame_lines
+compare: build/pwscript build/figure_lines build/value_lines build/frames build/frame_lines
 	tests/compare.sh $(SEED) $(LINES)
 	tests/frames.sh $(SEED) $(LINES)
 
@@ -54,10 +57,10 @@ build/pwscript: $(PWSCRIPT) $(PW) $(LEAVES)
 build/sanitized/pwscript: $(PWSCRIPT) $(PW) $(LEAVES)
 	$(COMPILE) $(SANITIZED) -o $@ $(INPUTS)
 
-build/test_pw: tests/test_pw.c tests/bits.h tests/energy.h tests/pages.h $(PW)
+build/test_pw: tests/test_pw.c tests/bits.h tests/energy.h tests/formats.h tests/pages.h $(PW)
 	$(COMPILE) $(PLAIN) -o $@ $(INPUTS) -lm
 
-build/sanitized/test_pw: tests/test_pw.c tests/bits.h tests/energy.h tests/pages.h $(PW)
+build/sanitized/test_pw: tests/test_pw.c tests/bits.h tests/energy.h tests/formats.h tests/pages.h $(PW)
 	$(COMPILE) $(SANITIZED) -o $@ $(INPUTS) -lm
 
 build/test_leaves: tests/test_leaves.c tests/bits.h tests/pages.h $(LEAVES)
@@ -72,10 +75,22 @@ build/test_figures: tests/test_figures.c tests/bits.h tests/energy.h tests/float
 build/sanitized/test_figures: tests/test_figures.c tests/bits.h tests/energy.h tests/floats.h $(PW) $(LEAVES)
 	$(COMPILE) $(SANITIZED) -o $@ $(INPUTS) -lm
 
-build/test_state: tests/test_state.c tests/fields.h tests/bits.h $(LEAVES)
+build/test_state: tests/test_state.c tests/meters.h tests/fields.h tests/bits.h $(LEAVES)
 	$(COMPILE) $(PLAIN) -o $@ $(INPUTS) -lm
 
-build/sanitized/test_state: tests/test_state.c tests/fields.h tests/bits.h $(LEAVES)
+build/sanitized/test_state: tests/test_state.c tests/meters.h tests/fields.h tests/bits.h $(LEAVES)
+	$(COMPILE) $(SANITIZED) -o $@ $(INPUTS) -lm
+
+build/test_values: $(VALUES) $(LEAVES)
+	$(COMPILE) $(PLAIN) -o $@ $(INPUTS) -lm
+
+build/sanitized/test_values: $(VALUES) $(LEAVES)
+	$(COMPILE) $(SANITIZED) -o $@ $(INPUTS) -lm
+
+build/test_readouts: $(READOUTS) $(LEAVES)
+	$(COMPILE) $(PLAIN) -o $@ $(INPUTS) -lm
+
+build/sanitized/test_readouts: $(READOUTS) $(LEAVES)
 	$(COMPILE) $(SANITIZED) -o $@ $(INPUTS) -lm
 
 build/frames: $(FRAMES) $(LEAVES)
@@ -88,6 +103,9 @@ build/frame_lines: tests/frame_lines.c tests/bits.h
 	$(COMPILE) $(PLAIN) -o $@ $(INPUTS) -lm
 
 build/figure_lines: tests/figure_lines.c tests/bits.h tests/floats.h
+	$(COMPILE) $(PLAIN) -o $@ $(INPUTS) -lm
+
+build/value_lines: tests/value_lines.c tests/bits.h tests/floats.h
 	$(COMPILE) $(PLAIN) -o $@ $(INPUTS) -lm
 
 build/bench: host/bench.c $(PW) $(LEAVES)

@@ -85,11 +85,27 @@ static void bench_frames(void)
     BENCH("leaf_frame, DC", uint64_t, (dc = leaf_frame(dc, k, 0x1C, k % 4096, k % 4096, k % 65536).pw).ring.ring_k);
 }
 
+/* The formats; and the values of a meter that has measured all, with its readouts. */
+static void bench_values(void)
+{
+    struct leaf_description d = {{1.0f, 1.0f}, {1.0f, 1.0f, 1.0f}, 1.0f, false};
+    struct leaf_pw pw = leaf_pw_new(d, (struct leaf_calibration){.valid = false});
+    pw.mode.on = true;
+    pw.mode.coup = 0;
+    pw.cycle.seen = 7;
+    pw.parts = (struct leaf_parts){.p_ac = 20.0f, .v_dc = 1.0f, .i_ac = 3.0f, .i_dc = 0.25f};
+    BENCH("pw_energy_format", float, pw_energy_format(some_float(k), (k & 1) != 0).number);
+    BENCH("pw_p_format", float, pw_p_format(some_float(k), some_figure(k), (k & 1) != 0).number);
+    BENCH("leaf_pw_vals, shown", float,
+          (pw.parts.v_ac = some_figure(k), leaf_reading_vals(leaf_pw_vals(pw).vals).main.number));
+}
+
 int main(void)
 {
     BENCH("(loop alone)", float, some_float(k));
     bench_codes_and_numbers();
     bench_figures();
     bench_frames();
+    bench_values();
     return 0;
 }

@@ -2,8 +2,8 @@
  *
  * They are exported so that they can be compared with the published Rust, function by function (by
  * pwscript) and call by call (by tests/frames.c), and with the C compiler's arithmetic (by
- * tests/test_leaves.c and tests/test_figures.c) or the published text (by tests/test_state.c). They are
- * no part of the product's interface, pw.h.
+ * tests/test_leaves.c and tests/test_figures.c) or the published text (by tests/test_state.c and
+ * tests/test_values.c). They are no part of the product's interface, pw.h.
  * Each answers for every argument; float and double mean IEEE 754's binary32 and binary64, and a
  * NaN's sign and payload are not kept. */
 #ifndef LEAVES_H
@@ -369,5 +369,128 @@ struct leaf_outcome leaf_frame(struct leaf_pw pw, uint64_t now, uint8_t flags, i
  * any other number none. Only the cycle and the comparator change; `mark` is set always, and
  * `to_values` is no. */
 struct leaf_outcome leaf_apply(struct leaf_pw pw, uint8_t keep, uint64_t now);
+
+/* ---- the values of a meter ---- */
+
+/* The energies in Wh and VAh, the counted time in seconds, of which the low 32 bits are kept, and the
+ * mean power over it in W. */
+struct leaf_energies {
+    float e_wh;
+    float vah;
+    uint32_t secs;
+    float p_avg;
+};
+
+/* What is in force: the alternating method (no where `dc`), DC coupling, the coupling asked for, the
+ * burden taken off, energy being counted, the phase step, and what the main readout shows (0 power, 1
+ * Wh, 2 VAh; any other number counts as 0 there). */
+struct leaf_in_force {
+    bool alt;
+    bool dc;
+    uint8_t coup;
+    bool comp;
+    bool run;
+    int8_t sph;
+    uint8_t main;
+};
+
+/* Whether the voltage or the current is above its range; the limit of the current: 0 below it, 1
+ * above it with `over_left` seconds to go, 2 for too long. */
+struct leaf_limits {
+    bool v_ol;
+    bool i_ol;
+    uint8_t over;
+    uint16_t over_left;
+};
+
+/* In AC+DC coupling of method B the DC and AC parts of volts, amperes and watts, the source's vp, ip
+ * and pp; else zeros. */
+struct leaf_split {
+    float v_dc;
+    float v_ac;
+    float i_dc;
+    float i_ac;
+    float p_dc;
+    float p_ac;
+};
+
+/* The source's PowerVals. In `hint` 1 says that AC+DC coupling has no AC part, 2 that DC coupling has
+ * one. */
+struct leaf_power_vals {
+    struct leaf_figures load;
+    float vdc;
+    float idc;
+    bool f_ok;
+    float burden_v;
+    struct leaf_energies energies;
+    struct leaf_ranges ranges;
+    struct leaf_in_force in_force;
+    struct leaf_limits limits;
+    uint8_t hint;
+    struct leaf_split split;
+};
+
+/* The source's PowerVals::ZERO, where f_ok is no and p_avg a NaN. */
+struct leaf_power_vals leaf_zero_vals(void);
+
+/* The source's pw_vals: not measured while off or before each quantity was seen, and then the values
+ * are leaf_zero_vals(). Ranges past the tables are held to the last entry in what is computed, and
+ * come back as they are. */
+struct leaf_vals {
+    bool measured;
+    struct leaf_power_vals vals;
+};
+struct leaf_vals leaf_pw_vals(struct leaf_pw pw);
+
+/* The source's pw_state: these values, or where nothing is measured zeros with the ranges, the
+ * energies, the time and what is in force. */
+struct leaf_power_vals leaf_pw_state(struct leaf_pw pw);
+
+/* A number as it is shown: its decimals, its unit by pw.h's number, and whether its range is passed,
+ * and then the number is 0.0. */
+struct leaf_val {
+    float number;
+    uint8_t decimals;
+    uint8_t unit;
+    bool over;
+};
+
+/* The three readouts, and the main one's power in W or VA, 0.0 where a range is passed. */
+struct leaf_readouts {
+    struct leaf_val main;
+    struct leaf_val v;
+    struct leaf_val i;
+    float si;
+};
+struct leaf_readouts leaf_reading_vals(struct leaf_power_vals pv);
+
+/* The energy box: the energy where the main readout shows the power, else the power. */
+struct leaf_val leaf_energy_val(struct leaf_power_vals pv);
+
+/* The main value that the telephone is told: a power as volts, held to 65534 counts. */
+struct leaf_val leaf_bt_main(struct leaf_power_vals pv);
+
+/* The source's pw_partial, what is shown before there is a reading: text 0 nothing to show, 1
+ * "Zeroing: leads open", 2 "V calibration...", 3 "I ranging...". Without volts their number is 0.0,
+ * with 0 decimals, in unit 0 (V), not over. */
+struct leaf_partial {
+    uint8_t text;
+    bool with_volts;
+    struct leaf_val volts;
+};
+struct leaf_partial leaf_pw_partial(struct leaf_pw pw);
+
+/* On, counting energy, with a current that was seen and is above 50 uA. */
+bool leaf_integrating(struct leaf_pw pw);
+
+/* The telephone's mode byte: 40 for automatic, else 8 times the V range's number from 1 on; a range
+ * above 3 counts as 3. */
+uint8_t leaf_bt_mode_byte(bool v_auto, uint8_t vr);
+
+/* Plus zero where x times ten, `dec` times over in binary32, is below 0.5 in size; else x. */
+float leaf_no_neg_zero(float x, uint8_t dec);
+
+/* Rust's signum: 1.0 or -1.0 by the sign bit, also of a zero; a NaN for a NaN. */
+float leaf_signum(float x);
 
 #endif

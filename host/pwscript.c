@@ -214,6 +214,62 @@ static bool f_acc_wh(const struct word *argument)
     return read_energy(argument, &acc) && write_float(pw_acc_wh(acc));
 }
 
+/* WH VA */
+static bool f_energy_format(const struct word *argument)
+{
+    float wh;
+    bool va;
+    return read_float(argument[0], &wh) && read_bool(argument[1], &va) && write_format(pw_energy_format(wh, va));
+}
+
+/* FS SI WATTS */
+static bool f_p_format(const struct word *argument)
+{
+    float x[2];
+    bool watts;
+    return read_floats(argument, x, 2) && read_bool(argument[2], &watts)
+           && write_format(pw_p_format(x[0], x[1], watts));
+}
+
+static bool f_no_neg_zero(const struct word *argument)
+{
+    float x;
+    uint8_t dec;
+    return read_float(argument[0], &x) && read_u8(argument[1], &dec) && write_float(leaf_no_neg_zero(x, dec));
+}
+
+static bool f_bt_mode(const struct word *argument)
+{
+    bool v_auto;
+    uint8_t vr;
+    return read_bool(argument[0], &v_auto) && read_u8(argument[1], &vr) && write_int(leaf_bt_mode_byte(v_auto, vr));
+}
+
+/* VR IK V_OL I_OL ALT MAIN P S V I E_WH VAH, all other values those of zero. */
+static bool f_vals(const struct word *argument)
+{
+    struct leaf_power_vals pv = leaf_zero_vals();
+    float x[6];
+    if (!read_u8(argument[0], &pv.ranges.vr) || !read_u8(argument[1], &pv.ranges.ik)
+        || !read_bool(argument[2], &pv.limits.v_ol) || !read_bool(argument[3], &pv.limits.i_ol)
+        || !read_bool(argument[4], &pv.in_force.alt) || !read_u8(argument[5], &pv.in_force.main)
+        || !read_floats(argument + 6, x, 6))
+        return false;
+    pv.load.p = x[0];
+    pv.load.s = x[1];
+    pv.load.v = x[2];
+    pv.load.i = x[3];
+    pv.energies.e_wh = x[4];
+    pv.energies.vah = x[5];
+    return write_readouts(leaf_reading_vals(pv), leaf_energy_val(pv), leaf_bt_main(pv));
+}
+
+static bool f_zero(const struct word *argument)
+{
+    (void)argument;
+    return write_values(leaf_zero_vals());
+}
+
 /* The served functions: name, number of arguments, and the handler, which
  * writes the answer, or writes nothing and returns false. */
 static const struct {
@@ -245,6 +301,12 @@ static const struct {
     {"ema_rel", 4, f_ema_rel},
     {"acc", 3, f_acc},
     {"acc_wh", 2, f_acc_wh},
+    {"energy_format", 2, f_energy_format},
+    {"p_format", 3, f_p_format},
+    {"no_neg_zero", 2, f_no_neg_zero},
+    {"bt_mode", 2, f_bt_mode},
+    {"vals", 12, f_vals},
+    {"zero", 0, f_zero},
 };
 
 /* ---- commands: the first word of a line ---- */

@@ -220,15 +220,28 @@ bool read_calibration_words(struct word w, struct calibration_words *words)
 
 /* ---- writing ---- */
 
-/* A space, and the float. */
-static void print_float(float x)
+/* What stands before the float, and the float. */
+static void print_after(const char *before, float x)
 {
     uint32_t bits;
     memcpy(&bits, &x, sizeof bits);
     if (isnan(x))
-        printf(" nan");
+        printf("%snan", before);
     else
-        printf(" %08" PRIx32, bits);
+        printf("%s%08" PRIx32, before, bits);
+}
+
+/* A space, and the float. */
+static void print_float(float x)
+{
+    print_after(" ", x);
+}
+
+/* A space, then number, decimals, unit and over mark with commas between. */
+static void print_val(struct leaf_val v)
+{
+    print_float(v.number);
+    printf(",%d,%s,%d", v.decimals, pw_unit_name(v.unit), v.over);
 }
 
 bool write_floats(const float *x, size_t count)
@@ -275,6 +288,60 @@ bool write_energy(bool fits, int64_t mj, float frac)
     } else {
         printf("= full\n");
     }
+    return true;
+}
+
+bool write_format(struct pw_format f)
+{
+    putchar('=');
+    print_float(f.number);
+    printf(" %d %s\n", f.decimals, pw_unit_name(f.unit));
+    return true;
+}
+
+bool write_readouts(struct leaf_readouts r, struct leaf_val energy, struct leaf_val bt)
+{
+    putchar('=');
+    print_val(r.main);
+    print_val(r.v);
+    print_val(r.i);
+    print_float(r.si);
+    print_val(energy);
+    print_val(bt);
+    putchar('\n');
+    return true;
+}
+
+bool write_values(struct leaf_power_vals pv)
+{
+    putchar('=');
+    print_after(" p=", pv.load.p);
+    print_after(" s=", pv.load.s);
+    print_after(" q=", pv.load.q);
+    print_after(" pf=", pv.load.pf);
+    print_after(" v=", pv.load.v);
+    print_after(" i=", pv.load.i);
+    print_after(" vdc=", pv.vdc);
+    print_after(" idc=", pv.idc);
+    printf(" f_ok=%d", pv.f_ok);
+    print_after(" burden_v=", pv.burden_v);
+    print_after(" e_wh=", pv.energies.e_wh);
+    print_after(" vah=", pv.energies.vah);
+    printf(" secs=%" PRIu32, pv.energies.secs);
+    print_after(" p_avg=", pv.energies.p_avg);
+    printf(" vr=%d ik=%d v_auto=%d i_auto=%d", pv.ranges.vr, pv.ranges.ik, pv.ranges.v_auto, pv.ranges.i_auto);
+    struct leaf_in_force now = pv.in_force;
+    struct leaf_limits limits = pv.limits;
+    printf(" alt=%d dc=%d coup=%d comp=%d run=%d", now.alt, now.dc, now.coup, now.comp, now.run);
+    printf(" v_ol=%d i_ol=%d over=%d over_left=%d", limits.v_ol, limits.i_ol, limits.over, limits.over_left);
+    printf(" sph=%d main=%d hint=%d", now.sph, now.main, pv.hint);
+    print_after(" vp=", pv.split.v_dc);
+    print_after(",", pv.split.v_ac);
+    print_after(" ip=", pv.split.i_dc);
+    print_after(",", pv.split.i_ac);
+    print_after(" pp=", pv.split.p_dc);
+    print_after(",", pv.split.p_ac);
+    putchar('\n');
     return true;
 }
 

@@ -3,6 +3,7 @@
 #define WORDS_H
 
 #include "leaves.h"
+#include "pw.h"
 
 #include <stdbool.h>
 #include <stddef.h>
@@ -68,6 +69,15 @@ bool write_found(bool found, uint8_t code);
 
 /* Millijoules and the fraction, or `full` where an addition did not fit. */
 bool write_energy(bool fits, int64_t mj, float frac);
+
+/* The number, the decimals and the name of the unit. */
+bool write_format(struct pw_format f);
+
+/* The three readouts and the power in W or VA, the energy box and the telephone's value. */
+bool write_readouts(struct leaf_readouts r, struct leaf_val energy, struct leaf_val bt);
+
+/* Values of a meter, each behind its name. */
+bool write_values(struct leaf_power_vals pv);
 
 /* The answer to a call that gives no mark, used no frame and has no reading. */
 bool write_refusal(uint8_t refusal);

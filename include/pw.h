@@ -166,6 +166,82 @@ uint8_t pw_acc_add(struct pw_acc *acc, float joules);
  *          infinite where `frac` is. */
 float pw_acc_wh(struct pw_acc acc);
 
+/* The units that a number is shown in. Today only PW_UNIT_W to PW_UNIT_KVAH can
+ * be returned. */
+#define PW_UNIT_V 0
+#define PW_UNIT_A 1
+#define PW_UNIT_MA 2 /* mA */
+#define PW_UNIT_UA 3 /* uA, the micro sign as u */
+#define PW_UNIT_W 4
+#define PW_UNIT_MW 5 /* mW: a thousandth of a watt, as for the others in m */
+#define PW_UNIT_KW 6
+#define PW_UNIT_VA 7
+#define PW_UNIT_MVA 8
+#define PW_UNIT_KVA 9
+#define PW_UNIT_WH 10
+#define PW_UNIT_MWH 11
+#define PW_UNIT_KWH 12
+#define PW_UNIT_VAH 13
+#define PW_UNIT_KVAH 14
+#define PW_UNIT_MV 15
+#define PW_UNITS 16
+
+/* The name of a unit in ASCII, as "mWh"; "?" for any number that is none. The
+ * text lasts as long as the program and must not be written. It is C of this
+ * header, and no part of libpw.a. */
+static inline const char *pw_unit_name(uint8_t unit)
+{
+    static const char *const names[PW_UNITS] = {
+        "V",   "A",   "mA", "uA",  "W",   "mW",  "kW",   "VA",
+        "mVA", "kVA", "Wh", "mWh", "kWh", "VAh", "kVAh", "mV"};
+    return unit < PW_UNITS ? names[unit] : "?";
+}
+
+/* A number as it is shown: in `unit`, with `decimals` digits behind the point.
+ * `number` itself is not rounded to them; printf("%.*f", decimals, number)
+ * does that. A number below zero may then print as -0.0000, which a display
+ * wants without its sign. Padding follows `unit`, so records cannot be compared
+ * byte by byte. */
+struct pw_format {
+    float number;
+    uint8_t decimals;
+    uint8_t unit; /* PW_UNIT_W .. PW_UNIT_KVAH */
+};
+
+/* An energy as it is shown.
+ *
+ * Takes:   `wh`, any float: watt hours, or VAh where `va`. A bool must be 0 or
+ *          1, as C's is.
+ * Returns: for watt hours, by the size of `wh`: mWh and wh * 1000 below 1, Wh
+ *          and wh below 1000, else kWh and wh * 0.001. For VAh, which has no
+ *          unit of a thousandth: VAh and wh below 100,000, else kVAh and
+ *          wh * 0.001.
+ *          Then by the size of the number: 4 decimals below 10, 3 below 100, 2
+ *          below 1000, else 1. What is at a bound is not below it. The products
+ *          are rounded to binary32, and 0.001 is the float nearest it, so that
+ *          100,000 VAh is 100.00001 kVAh. An infinity stays one, with 1
+ *          decimal; a NaN stays a NaN, with 1 decimal, in kWh or kVAh.
+ *          0.5 Wh is 500, 2 decimals, mWh; 0.5 VAh is 0.5, 4 decimals, VAh. */
+struct pw_format pw_energy_format(float wh, bool va);
+
+/* A power as it is shown in ranges whose limits multiply to `fs`: the ranges,
+ * and not the power itself, choose the unit and the decimals.
+ *
+ * Takes:   any two floats: `fs`, the full scale in watts, and `si`, the power
+ *          in watts, or VA where not `watts`. A bool must be 0 or 1, as C's is.
+ * Returns: kW, si * 0.001 and 3 decimals where fs is 9000 or more. Else mW and
+ *          si * 1000 where fs is below 1, else W and si, with 4 decimals where
+ *          f is below 10, 3 below 100, 2 below 1000, else 1; f is fs * 1000 *
+ *          1.05 for mW and fs * 1.05 for W. Where not `watts` it is kVA, mVA
+ *          and VA. What is at a bound is not below it; the products are in
+ *          binary32, from left to right and rounded at each, and 0.001 and 1.05
+ *          are the floats nearest them. A NaN `fs` gives W or VA, si and 1
+ *          decimal; an `si` that is a NaN or infinite stays one, and a large
+ *          one in mW can become infinite. 0.5 W with fs 36 (6 V and 6 A) is
+ *          0.5, 3 decimals, W; with fs 0.36 (6 V and 60 mA) it is 500, 2
+ *          decimals, mW. */
+struct pw_format pw_p_format(float fs, float si, bool watts);
+
 #ifdef __cplusplus
 }
 #endif

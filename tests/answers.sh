@@ -25,12 +25,13 @@ plain_meter() {
 
 # served_lines SEED LINES: that many lines, from `pwgen funcs SEED`: those of served functions, and every
 # `meter` line between them, which counts as a line. The first line makes a plain meter, since the one
-# that pwgen starts with may be refused, and `f v_gain` asks for a meter.
-# It is asked for twice as many lines, since it draws other functions as well.
+# that pwgen starts with may be refused, and `f v_gain` asks for a meter; the second is `f zero`, which has
+# no argument and is not drawn. pwgen is asked for twice as many lines, since it draws other functions as
+# well.
 served_lines() {
     "$oracle_folder/pwgen" funcs "$1" $((2 * $2 + 1000)) | awk -v lines="$2" -v meter="$(plain_meter)" '
         function take(line) { if (n < lines) { print line; n++ } }
-        BEGIN { take(meter) }
+        BEGIN { take(meter); take("f zero") }
         NR == FNR { served[$1]; next }
         $1 == "meter" || $1 == "f" && ($2 in served) { take($0) }' tests/served -
 }
@@ -75,24 +76,41 @@ same_answers() {
     done
 }
 
-# frame_script SEED SIGNALS LIMITS: a plain meter, so many calls of physical signals, jobs and orders (pwgen
-# script), and so many of tests/frame_lines.c.
+# frame_script SEED SIGNALS LIMITS [SEED..]: a plain meter, so many calls of physical signals, jobs and orders
+# (pwgen script), and so many of tests/frame_lines.c, for each of the seeds behind where there are any.
 frame_script() {
+    local seed=$1 signals=$2 limits=$3
+    shift 3
     plain_meter
-    "$oracle_folder/pwgen" script "$1" "$2" 0 && build/frame_lines "$1" "$3"
+    "$oracle_folder/pwgen" script "$seed" "$signals" 0 || return
+    for seed in "${@:-$seed}"; do build/frame_lines "$seed" "$limits" || return; done
 }
 
 # transcript SCRIPT: the calls of SCRIPT, each behind `> `, with the published Rust's answers, and of each dump
 # the words that are not as in the dump before (tests/transcript.h). A conversion of the ring is a word. The
-# script begins with a meter that is made, since there is no dump without one.
+# state (D9) is left out where it is as the values (D8), and D11 where it is as before. The script begins with a
+# meter that is made, since there is no dump without one.
 transcript() {
     questions "$1" | sed '/^meter /a dump' | "$oracle_folder/pworacle" --dump | awk -v calls="$1" '
-        function put(key, value) {
-            if (key in last && last[key] "" == value "") return
+        # the word, if its value is not the last one
+        function changed(last, key, value) {
+            if (key in last && last[key] "" == value "") return ""
             last[key] = value
-            words = words " " key "=" value
+            return " " key "=" value
         }
-        function put_dump() { if (words != "") print "D" words; words = "" }
+        # such words of the line, from word number k on
+        function words_of(last, k,    at, words) {
+            for (; k <= NF; k++) {
+                at = index($k, "=")
+                words = words changed(last, substr($k, 1, at - 1), substr($k, at + 1))
+            }
+            return words
+        }
+        function put_dump() {
+            if (words != "") print "D" words
+            printf "%s", lines
+            words = lines = ""
+        }
         function next_call() {
             do { if ((getline call < calls) <= 0) return 0 } while (call == "" || call ~ /^#/)
             return 1
@@ -104,19 +122,37 @@ transcript() {
             print
             next
         }
-        /^D[0-7] / {
-            if (whole[$1] == $0) next
-            whole[$1] = $0
-            for (k = 2; k <= NF; k++) {
-                at = index($k, "=")
-                key = substr($k, 1, at - 1)
-                value = substr($k, at + 1)
-                if (key != "ring") { put(key, value); continue }
-                slots = split(value, slot, ",")
-                for (j = 1; j <= slots; j++) put("ring." (j - 1), slot[j])
-            }
+        # Where there are values, the state is they.
+        /^D9 / && measured {
+            as_vals = 1
+            if (substr($0, length("D9 state ") + 1) != substr(whole["D8"], length("D8 vals ") + 1)) lines = lines $0 "\n"
             next
         }
+        /^D9 / && as_vals {
+            for (key in vals) state[key] = vals[key]
+            as_vals = 0
+            whole["D9"] = ""
+        }
+        /^D[0-9]+ / {
+            if (whole[$1] == $0) next
+            whole[$1] = $0
+        }
+        /^D8 / {
+            measured = $3 != "none"
+            lines = lines "D8 vals" (measured ? words_of(vals, 3) : " none") "\n"
+            next
+        }
+        /^D9 / { lines = lines "D9 state" words_of(state, 3) "\n"; next }
+        /^D10 / { lines = lines "D10" words_of(shown, 2) "\n"; next }
+        /^D11 / { lines = lines $0 "\n"; next }
+        /^D7 / {
+            slots = split(substr($4, length("ring=") + 1), slot, ",")
+            NF = 3
+            words = words words_of(meter, 2)
+            for (j = 1; j <= slots; j++) words = words changed(meter, "ring." (j - 1), slot[j])
+            next
+        }
+        /^D/ { words = words words_of(meter, 2); next }
         /^\?/ { print }
         END { put_dump(); if (next_call()) { print "more calls than answers"; exit 1 } }'
 }

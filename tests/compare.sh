@@ -1,7 +1,8 @@
 #!/bin/bash
 # tests/compare.sh SEED LINES [PROGRAM]: LINES random lines of the figures with floats of any bits
-# (build/figure_lines), then LINES of served functions and of meters made, answered by the published Rust
-# (../shared/oracle, built here) and by PROGRAM (build/pwscript); byte for byte the same?
+# (build/figure_lines), LINES of the formats and values (build/value_lines), then LINES of served functions and
+# of meters made, answered by the published Rust (../shared/oracle, built here) and by PROGRAM (build/pwscript);
+# byte for byte the same?
 set -u -o pipefail
 cd "$(dirname "$0")/.." || exit 1
 . tests/answers.sh
@@ -23,6 +24,9 @@ build_oracle
 build/figure_lines "$seed" "$lines" > "$work/questions" || fail "figure_lines failed"
 compare "figures with floats of any bits"
 echo "compare: seed $seed, $lines lines of figures with floats of any bits, no difference"
+build/value_lines "$seed" "$lines" > "$work/questions" || fail "value_lines failed"
+compare "formats and values"
+echo "compare: seed $seed, $lines lines of formats and values, no difference"
 served_lines "$seed" "$lines" > "$work/questions" || fail "pwgen failed"
 compare "served functions"
-echo "compare: seed $seed, $lines lines, $(meters "$work/questions") of them meters, and as many of figures, no difference ($("$oracle_folder/pworacle" --source))"
+echo "compare: seed $seed, $lines lines, $(meters "$work/questions") of them meters, and as many of figures and of formats and values, no difference ($("$oracle_folder/pworacle" --source))"

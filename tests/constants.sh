@@ -2,7 +2,8 @@
 # tests/constants.sh: the constants of crates/tables are spelled as in the published Rust: those of
 # constants.rt under the same name, and of window.rt the comparator's two tables, whose pairs are two
 # arrays here, and M. White space, underscores in numbers and the case of their letters do not count.
-# It only reads the published text, ../shared/docs/src.
+# The names of the units in pw.h are those that the published functions use, the micro sign as u, and so are
+# the texts of pw_partial in tests/shown.h. It only reads the published text, ../shared/docs/src.
 set -u -o pipefail
 cd "$(dirname "$0")/.." || exit 1
 . tests/answers.sh
@@ -10,7 +11,9 @@ cd "$(dirname "$0")/.." || exit 1
 published=../shared/docs/src/firmware/src/powermeter.rs
 constants=crates/tables/src/constants.rt
 window=crates/tables/src/window.rt
-for file in "$published" "$constants" "$window"; do [ -f "$file" ] || fail "$file is not there"; done
+header=include/pw.h
+shown=tests/shown.h
+for file in "$published" "$constants" "$window" "$header" "$shown"; do [ -f "$file" ] || fail "$file is not there"; done
 
 # The one name that the published text does not have: there its number, 450, has no name.
 own_name=VCAL_DC_SETTLE_MS
@@ -74,8 +77,33 @@ for table in CMP_RH CMP_RL; do
 done
 same M "$(value M <<< "$tables")"
 
+# literals: the string literals of the lines read, each once, without their marks, the micro sign as u.
+# Comments are left out.
+literals() { sed 's,//.*,,' | grep -o '"[^"]*"' | sed 's/^"//; s/"$//; s/\\u{b5}/u/' | sort -u; }
+
+# body FUNCTION: the lines of a published function, up to the bracket below its first letter.
+body() {
+    awk -v name="fn $1(" '
+        !inside && index($0, name) { inside = 1; match($0, /^ */); indent = RLENGTH }
+        inside
+        inside && match($0, /^ *}/) && RLENGTH == indent + 1 { exit }' "$published"
+}
+
+# same_texts WHAT NUMBER OURS THEIRS: as many texts, each of them on both sides.
+same_texts() {
+    compared=$((compared + $2))
+    [ "$(wc -l <<< "$3")" -eq "$2" ] && [ "$3" = "$4" ] && return
+    failed=$((failed + 1))
+    echo "$1: ours are $(paste -s -d , <<< "$3"), the published text's $(paste -s -d , <<< "$4")"
+}
+array() { sed -n "/$1\[.*\] = {/,/};/p" "$2"; }
+units=$(for name in energy_format p_format reading_vals bt_main; do body "$name"; done | literals)
+same_texts "names of units" 16 "$(array 'const names' "$header" | literals)" "$units"
+texts=$(body pw_partial | literals | grep -v '^V$')
+same_texts "texts of pw_partial" 3 "$(array 'const partial_texts' "$shown" | literals | grep .)" "$texts"
+
 # All that constants.rt declares was read, and that is not too little.
 [ "$(grep -c '^pub const ' "$constants")" -eq "$(wc -l <<< "$ours")" ] || fail "not every constant of $constants was read"
-[ "$compared" -ge 60 ] || fail "only $compared constants were compared"
+[ "$compared" -ge 79 ] || fail "only $compared constants were compared"
 echo "constants: $compared compared with the published text, $failed differ"
 [ "$failed" -eq 0 ]

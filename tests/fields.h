@@ -1,7 +1,8 @@
 /* fields.h: the fields of a meter, under the names that they have in a dump of the published Rust.
  *
  * One table says where each field lies and of what kind it is, so that a dump is read and two
- * meters are compared value by value; what lies between the fields of a struct is not looked at. */
+ * meters are compared value by value; what lies between the fields of a struct is not looked at.
+ * What works on one such table works on any (shown.h has others). */
 #ifndef FIELDS_H
 #define FIELDS_H
 
@@ -12,8 +13,8 @@
 #include <stddef.h>
 #include <stdio.h>
 
-/* STAMPED is a bool, in a dump no for `-`. */
-enum kind { BOOL, STAMPED, U8, I8, U16, I16, U32, I32, U64, I64, F32 };
+/* STAMPED is a bool, in a dump no for `-`. UNIT is a unit's number, in a dump its name. */
+enum kind { BOOL, STAMPED, UNIT, U8, I8, U16, I16, U32, I32, U64, I64, F32 };
 
 /* MADE is given when a meter is made and is in no dump. KEPT is left alone by a frame up to the
  * accounting step, but not by what follows, so that the dump after the frame does not show it. All
@@ -135,6 +136,7 @@ static inline size_t size_of(enum kind kind)
     switch (kind) {
     case BOOL:
     case STAMPED:
+    case UNIT:
     case U8:
     case I8:
         return 1;
@@ -151,16 +153,16 @@ static inline size_t size_of(enum kind kind)
 }
 
 /* The value of index k of a field: its bytes as the low ones of 64 bits, the lowest one first. */
-static inline uint64_t value_of(const struct leaf_pw *pw, const struct field *f, size_t k)
+static inline uint64_t value_of(const void *record, const struct field *f, size_t k)
 {
     uint64_t value = 0;
-    memcpy(&value, (const char *)pw + f->at + k * size_of(f->kind), size_of(f->kind));
+    memcpy(&value, (const char *)record + f->at + k * size_of(f->kind), size_of(f->kind));
     return value;
 }
 
-static inline void set_value(struct leaf_pw *pw, const struct field *f, size_t k, uint64_t value)
+static inline void set_value(void *record, const struct field *f, size_t k, uint64_t value)
 {
-    memcpy((char *)pw + f->at + k * size_of(f->kind), &value, size_of(f->kind));
+    memcpy((char *)record + f->at + k * size_of(f->kind), &value, size_of(f->kind));
 }
 
 static inline bool same_value(const struct field *f, uint64_t a, uint64_t b)
@@ -180,13 +182,13 @@ static inline void put_value(const struct field *f, uint64_t value)
         printf(" %" PRIu64, value);
 }
 
-/* How many values two meters differ in. The first `most` of them are shown, each with `what`, the
- * key, the index, the place among the key's values, the value expected and the one got. */
-static inline size_t differences(const struct leaf_pw *expected, const struct leaf_pw *got,
-                                 const char *what, size_t most)
+/* How many values two records of a table differ in. The first `most` of them are shown, each with
+ * `what`, the key, the index, the place among the key's values, the value expected and the one got. */
+static inline size_t differences_in(const struct field *table, size_t length, const void *expected,
+                                    const void *got, const char *what, size_t most)
 {
     size_t count = 0;
-    for (const struct field *f = fields; f < fields + FIELDS; f++)
+    for (const struct field *f = table; f < table + length; f++)
         for (size_t k = 0; k < f->count; k++) {
             uint64_t e = value_of(expected, f, k), g = value_of(got, f, k);
             if (same_value(f, e, g) || count++ >= most)
@@ -198,6 +200,13 @@ static inline size_t differences(const struct leaf_pw *expected, const struct le
             putchar('\n');
         }
     return count;
+}
+
+/* The same of two meters. */
+static inline size_t differences(const struct leaf_pw *expected, const struct leaf_pw *got,
+                                 const char *what, size_t most)
+{
+    return differences_in(fields, FIELDS, expected, got, what, most);
 }
 
 #endif

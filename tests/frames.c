@@ -1,13 +1,17 @@
 /* frames LEAST: what leaf_frame and leaf_apply make of each call of a transcript (transcript.h), on
- * standard input, beside what the published Rust made of it.
+ * standard input, beside what the published Rust made of it; and after each call what is read off
+ * the meter (values.h).
  *
  * Each accepted frame outside a job is given to leaf_frame with the meter of the dump before it.
  * What the accounting step may change is compared with what was handed in, and all else with the
  * dump after the frame. Each order that is an apply is given to leaf_apply with what it sets, and
  * each meter made is compared with leaf_pw_new. Codes are decoded here, by document 01. The status
- * is 0 where nothing differs and each of the cases below was met LEAST times or more. */
+ * is 0 where nothing differs and each of the cases below, and of values.c, was met LEAST times or
+ * more. */
+#include "cases.h"
 #include "fields.h"
 #include "transcript.h"
+#include "values.h"
 
 #include <math.h>
 #include <stdlib.h>
@@ -41,7 +45,7 @@ static const char *const cases[CASES] = {
     [RANGES_I] = "I ranged", [RANGES_BOTH] = "both ranged",
 };
 static uint64_t met[CASES];
-static uint64_t frames, applies, differ, shown;
+static uint64_t frames, applies, meters, differ, shown;
 
 static void count(enum met which, bool was)
 {
@@ -367,9 +371,11 @@ static void check(const struct call *c)
         {"on", 2, on}, {"reapply", 2, reapply}, {"method", 3, method},
         {"coupling", 3, coupling}, {"ranges", 4, ranges},
     };
+    snprintf(what, sizeof what, "line %zu,%.40s", c->line, c->text);
+    differ += check_values(c, what, differ < MOST_SHOWN ? MOST_SHOWN : 0) == 0 ? 0 : 1;
+    meters++;
     if (c->refusal != 0)
         return;
-    snprintf(what, sizeof what, "line %zu,%.40s", c->line, c->text);
     if (word_is(c->words[0], "meter"))
         check_meter(c);
     else if (word_is(c->words[0], "frame"))
@@ -377,23 +383,6 @@ static void check(const struct call *c)
     for (size_t k = 0; k < sizeof orders / sizeof orders[0]; k++)
         if (word_is(c->words[0], orders[k].name) && c->count == orders[k].count)
             check_order(c, orders[k].sets);
-}
-
-/* ---- the count ---- */
-
-/* Whether each case was met often enough. */
-static bool put_cases(uint64_t least)
-{
-    bool enough = true;
-    for (size_t k = 0; k < CASES; k++)
-        printf("%s%s %" PRIu64, k == 0 ? "met: " : ", ", cases[k], met[k]);
-    putchar('\n');
-    for (size_t k = 0; k < CASES; k++)
-        if (met[k] < least) {
-            printf("%s was met %" PRIu64 " times\n", cases[k], met[k]);
-            enough = false;
-        }
-    return enough;
 }
 
 int main(int argc, char **argv)
@@ -404,10 +393,11 @@ int main(int argc, char **argv)
     while (next_call(stdin, &c))
         check(&c);
     free(c.text);
-    bool enough = put_cases(strtoull(argv[1], NULL, 10));
+    uint64_t least = strtoull(argv[1], NULL, 10);
+    bool calls = put_cases(cases, met, CASES, least), values = put_value_cases(least);
     printf("frames: %" PRIu64 " frames (%" PRIu64 " b, %" PRIu64 " alternating, %" PRIu64
-           " DC), %" PRIu64 " applies %s, %" PRIu64 " differ\n",
-           frames, met[FRAMES_B], met[FRAMES_ALT], met[FRAMES_DC], applies,
+           " DC), %" PRIu64 " applies, and the values of %" PRIu64 " meters %s, %" PRIu64 " differ\n",
+           frames, met[FRAMES_B], met[FRAMES_ALT], met[FRAMES_DC], applies, meters,
            differ == 0 ? "agree" : "compared", differ);
-    return differ == 0 && enough && frames > 0 ? 0 : 1;
+    return differ == 0 && calls && values && frames > 0 ? 0 : 1;
 }

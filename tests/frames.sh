@@ -1,8 +1,9 @@
 #!/bin/bash
 # tests/frames.sh SEED CALLS [PROGRAM]: CALLS random calls of physical signals, jobs and orders (pwgen script) and
 # CALLS of tests/frame_lines.c, made to the published Rust (../shared/oracle, built here) with a dump after each;
-# does PROGRAM (build/frames) find that leaf_frame and leaf_apply do the same? From 10,000 calls on each of its
-# cases must be met, the oftener the more calls there are.
+# does PROGRAM (build/frames) find that leaf_frame and leaf_apply do the same, and that the same values are read
+# off the meter after each? From 10,000 calls on each of its cases must be met, the oftener the more calls there
+# are.
 set -u -o pipefail
 cd "$(dirname "$0")/.." || exit 1
 . tests/answers.sh

@@ -30,14 +30,14 @@ origin="tests/record.sh $seed $lines: pwgen funcs, seed $seed, $lines lines of t
 record functions tests/recorded/functions.script "$origin"
 record limits tests/limits.script "tests/record.sh: tests/limits.script, $(questions tests/limits.script | wc -l) lines"
 
-# The frames: a seed by which each case of tests/frames.c is met, whatever SEED is.
-frames_seed=347 signals=700 limits=1700
+# The frames: seeds by which each case of tests/frames.c and tests/values.c is met, whatever SEED is.
+signals_seed=12 signals=600 limits_seeds=(1487 1431 1772 1898 1057 91 820 913 1363) limits=150
 make --no-print-directory build/frame_lines || fail "frame_lines does not build"
-frame_script "$frames_seed" "$signals" "$limits" > "$work/script" || fail "there is no script of frames"
+frame_script "$signals_seed" "$signals" "$limits" "${limits_seeds[@]}" > "$work/script" || fail "there is no script of frames"
 transcript "$work/script" > "$work/transcript" || fail "the oracle did not answer all of the frames"
 {
-    echo "# tests/record.sh: pwgen script, seed $frames_seed, $signals calls, and frame_lines, seed $frames_seed, $limits calls"
+    echo "# tests/record.sh: pwgen script, seed $signals_seed, $signals calls, and frame_lines, $limits calls each of seeds ${limits_seeds[*]}"
     echo "# answers of $source"
     cat "$work/transcript"
 } > tests/recorded/frames.transcript
-echo "record: seed $seed, $lines lines, tests/limits.script, and $((signals + limits)) calls of frames ($source)"
+echo "record: seed $seed, $lines lines, tests/limits.script, and $((signals + limits * ${#limits_seeds[@]})) calls of frames ($source)"

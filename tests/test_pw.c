@@ -8,6 +8,7 @@
 #define _DEFAULT_SOURCE
 #include "bits.h"
 #include "energy.h"
+#include "formats.h"
 #include "pages.h"
 #include "pw.h"
 
@@ -30,6 +31,10 @@ _Static_assert(sizeof(struct pw_window) == 2, "pw_window");
 _Static_assert(offsetof(struct pw_acc, mj) == 0, "mj");
 _Static_assert(offsetof(struct pw_acc, frac) == 8, "frac");
 _Static_assert(sizeof(struct pw_acc) == 16, "pw_acc");
+_Static_assert(offsetof(struct pw_format, number) == 0, "number");
+_Static_assert(offsetof(struct pw_format, decimals) == 4, "decimals");
+_Static_assert(offsetof(struct pw_format, unit) == 5, "unit");
+_Static_assert(sizeof(struct pw_format) == 8, "pw_format");
 _Static_assert(FLT_EVAL_METHOD == 0, "each operation is rounded to its type");
 
 /* ---- counting ---- */
@@ -503,6 +508,105 @@ static void test_acc_sequence(void)
     check(refused == 0 && small.mj > 5000000, "the small additions are counted");
 }
 
+/* ---- formats ---- */
+
+static void check_format(struct pw_format got, struct shown_as expected, const char *what, float a, float b, bool yes)
+{
+    bool holds = same32(got.number, expected.number) && got.decimals == expected.decimals && got.unit < PW_UNITS
+                 && strcmp(pw_unit_name(got.unit), expected.unit) == 0;
+    if (check(holds, what) || failures > 20)
+        return;
+    printf("  of %08" PRIx32 " %08" PRIx32 " %d: %08" PRIx32 " %d %s, is to be %08" PRIx32 " %d %s\n", bits32(a),
+           bits32(b), yes, bits32(got.number), got.decimals, pw_unit_name(got.unit), bits32(expected.number),
+           expected.decimals, expected.unit);
+}
+
+static void check_energy_format(float wh)
+{
+    for (int va = 0; va < 2; va++)
+        check_format(pw_energy_format(wh, va == 1), energy_shown(wh, va == 1), "an energy's format", wh, 0.0f, va == 1);
+}
+
+static void check_p_format(float fs, float si)
+{
+    for (int watts = 0; watts < 2; watts++)
+        check_format(pw_p_format(fs, si, watts == 1), power_shown(fs, si, watts == 1), "a power's format", fs, si,
+                     watts == 1);
+}
+
+/* Document 01's rows, and those that pw.h tells of. */
+static void test_format_rows(void)
+{
+    check_format(pw_energy_format(0.5f, false), (struct shown_as){500.0f, 2, "mWh"}, "0.5 Wh", 0.5f, 0.0f, false);
+    check_format(pw_energy_format(0.5f, true), (struct shown_as){0.5f, 4, "VAh"}, "0.5 VAh", 0.5f, 0.0f, true);
+    check_format(pw_energy_format(100000.0f, true), (struct shown_as){float_of(0x42C80001), 2, "kVAh"}, "100,000 VAh",
+                 1e5f, 0.0f, true);
+    check_format(pw_energy_format(NAN, false), (struct shown_as){NAN, 1, "kWh"}, "a NaN of Wh", NAN, 0.0f, false);
+    check_format(pw_energy_format(-INFINITY, true), (struct shown_as){-INFINITY, 1, "kVAh"}, "minus infinite VAh",
+                 -INFINITY, 0.0f, true);
+    check_format(pw_p_format(36.0f, 0.5f, true), (struct shown_as){0.5f, 3, "W"}, "0.5 W of 36", 36.0f, 0.5f, true);
+    check_format(pw_p_format(0.36f, 0.5f, true), (struct shown_as){500.0f, 2, "mW"}, "0.5 W in mW", 0.36f, 0.5f, true);
+    check_format(pw_p_format(10000.0f, 2000.0f, false), (struct shown_as){2.0f, 3, "kVA"}, "2 kVA", 1e4f, 2e3f, false);
+    check_format(pw_p_format(NAN, 2.0f, true), (struct shown_as){2.0f, 1, "W"}, "a NaN of full scale", NAN, 2.0f, true);
+}
+
+/* The decimals and units of all pairs of ranges, as the source's comment has them for some. */
+static void test_format_ranges(void)
+{
+    static const float v_lim[] = {6.0f, 60.0f, 600.0f, 1000.0f};
+    static const float i_lim[] = {600e-6f, 6e-3f, 0.06f, 0.6f, 6.0f, 10.0f};
+    static const struct {
+        uint8_t decimals;
+        const char *unit;
+    } formats[4][6] = {
+        {{4, "mW"}, {3, "mW"}, {2, "mW"}, {4, "W"}, {3, "W"}, {3, "W"}},
+        {{3, "mW"}, {2, "mW"}, {4, "W"}, {3, "W"}, {2, "W"}, {2, "W"}},
+        {{2, "mW"}, {4, "W"}, {3, "W"}, {2, "W"}, {1, "W"}, {1, "W"}},
+        {{2, "mW"}, {4, "W"}, {3, "W"}, {2, "W"}, {1, "W"}, {3, "kW"}},
+    };
+    for (size_t v = 0; v < 4; v++)
+        for (size_t i = 0; i < 6; i++) {
+            struct pw_format got = pw_p_format(v_lim[v] * i_lim[i], 0.0f, true);
+            check(got.decimals == formats[v][i].decimals && strcmp(pw_unit_name(got.unit), formats[v][i].unit) == 0,
+                  "the format of a pair of ranges");
+            check_p_format(v_lim[v] * i_lim[i], -1.5f);
+        }
+}
+
+/* Numbers at the bounds and beside them, of any bits, and of no number. */
+static void test_formats_random(void)
+{
+    static const uint32_t odd[] = {0x00000000, 0x00000001, 0x007FFFFF, 0x00800000, 0x7F7FFFFF, 0x7F800000, 0x7FC00000};
+    uint64_t state = 6;
+    for (uint32_t a = 0; a < 14; a++) {
+        check_energy_format(float_of(odd[a / 2] | a << 31));
+        for (uint32_t b = 0; b < 14; b++)
+            check_p_format(float_of(odd[a / 2] | a << 31), float_of(odd[b / 2] | b << 31));
+    }
+    for (int n = 0; n < 1000000; n++) {
+        uint64_t r = next(&state);
+        float any = float_of((uint32_t)r), near = near_bound(&state);
+        check_energy_format(any);
+        check_energy_format(near);
+        check_p_format(any, near);
+        check_p_format(near, any);
+    }
+}
+
+/* The names of all bytes, and the numbers by their names. */
+static void test_units(void)
+{
+    static const char *const names[PW_UNITS] = {"V", "A", "mA", "uA", "W", "mW", "kW", "VA", "mVA", "kVA", "Wh", "mWh",
+                                                "kWh", "VAh", "kVAh", "mV"};
+    static const uint8_t units[PW_UNITS] = {PW_UNIT_V, PW_UNIT_A, PW_UNIT_MA, PW_UNIT_UA, PW_UNIT_W, PW_UNIT_MW,
+                                            PW_UNIT_KW, PW_UNIT_VA, PW_UNIT_MVA, PW_UNIT_KVA, PW_UNIT_WH, PW_UNIT_MWH,
+                                            PW_UNIT_KWH, PW_UNIT_VAH, PW_UNIT_KVAH, PW_UNIT_MV};
+    for (int unit = 0; unit < 256; unit++)
+        check(strcmp(pw_unit_name((uint8_t)unit), unit < PW_UNITS ? names[unit] : "?") == 0, "a unit's name");
+    for (uint8_t k = 0; k < PW_UNITS; k++)
+        check(units[k] == k, "a unit's number");
+}
+
 int main(void)
 {
     setvbuf(stdout, NULL, _IOLBF, 0);
@@ -525,6 +629,10 @@ int main(void)
     test_acc_guarded(pages);
     test_acc_neighbours();
     test_acc_sequence();
+    test_units();
+    test_format_rows();
+    test_format_ranges();
+    test_formats_random();
     printf("test_pw: %" PRIu64 " checks, %" PRIu64 " failed\n", checks, failures);
     return failures == 0 ? 0 : 1;
 }

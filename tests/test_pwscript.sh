@@ -54,19 +54,20 @@ silent() { says "$before$1\n$after" "$before_is$after_is"; }
 # The lines that are replayed are those of the served functions, of each and of no other, and meters.
 [ -s tests/served ] || fail "tests/served is missing or empty"
 for script in tests/limits.script tests/recorded/functions.script; do
-    cmp -s <(sort tests/served) <(questions "$script" | grep -a -v '^meter ' | sed -n 's/^f \([^ ]*\) .*/\1/; p' | sort -u)
+    cmp -s <(sort tests/served) <(questions "$script" | grep -a -v '^meter ' | sed -n 's/^f \([^ ]*\)\( .*\|\)$/\1/; p' | sort -u)
     count "$script has the functions of tests/served" $?
     [ "$(meters "$script")" -gt 0 ]
     count "$script has meters" $?
 done
 
-# Every served function answers a figure, and `?` with an argument too few, too many or malformed.
+# Every served function answers a figure, and `?` with an argument too few, too many or malformed. One
+# without arguments has its name in the place of the last one.
 while read -r name; do
-    grep -e "^f $name " -e '^meter ' tests/limits.script > "$work/in"
+    grep -e "^f $name " -e "^f $name\$" -e '^meter ' tests/limits.script > "$work/in"
     "$program" < "$work/in" > "$work/out"
     same_answers "$work/in" "$work/out" "$work/out" > /dev/null
     count "$name is served" $?
-    line=$(grep -m 1 "^f $name " "$work/in")
+    line=$(grep -m 1 -e "^f $name " -e "^f $name\$" "$work/in")
     bad "${line% *}"
     bad "$line 00000000"
     bad "$line nan"
@@ -84,10 +85,7 @@ done < tests/served
 
 # Lines of the protocol that are not served yet: a name that comes to tests/served leaves this list.
 for line in \
-    'f energy_format 3f000000 0' 'f p_format 3f800000 3f800000 0' 'f cal_outcome 42fefae1' \
-    'f no_neg_zero 80000000 3' 'f coup_name 3' 'f bt_mode 0 3' \
-    'f vals 1 1 0 0 0 0 3f800000 3f800000 3f800000 3f800000 3f800000 3f800000' 'f zero' 'f ring_text' 'f knobs' \
-    'on 0' 'off 0' 'method 0 1' \
+    'f cal_outcome 42fefae1' 'f coup_name 3' 'f ring_text' 'f knobs' 'on 0' 'off 0' 'method 0 1' \
     'coupling 0 1' 'zero 0' 'gain 0' 'reapply 0' 'ranges 0 k a' 'phase' 'ereset' 'run 1' \
     'set 1 3c23d70a 3f000000 423e0000 40c00000 30 0' 'frame 0 1c 0000000000000000000000000000' 'dump' 'dump on' 'hash'; do
     bad "$line"
@@ -162,6 +160,11 @@ spoiled ema 3f800000 3f000000 40400000 40000000
 spoiled ema_rel 3f000000 41a00000 40400000 40000000
 spoiled acc 0 00000000 3a800000
 spoiled acc_wh 3600000 00000000
+spoiled energy_format 3f000000 0
+spoiled p_format 3f800000 3f800000 1
+spoiled no_neg_zero 80000000 3
+spoiled bt_mode 0 3
+spoiled vals 1 1 0 0 0 0 3f800000 3f800000 3f800000 3f800000 3f800000 3f800000
 
 # Each argument in its place; of six answers each in its place.
 good 'f totals 40400000 40a00000 00000000 3f800000 00000000 00000000' '= 40400000 40a00000 40800000 3f19999a 40a00000 3f800000'
@@ -201,6 +204,48 @@ for number in 9223372036854775808 -9223372036854775809 18446744073709551616 - + 
     bad "f acc $number 00000000 00000000"
     bad "f acc_wh $number 00000000"
 done
+
+# Formats and values: each argument in its place, each answer in its place, and nan where a float may be.
+good 'f energy_format 3f000000 0' '= 43fa0000 2 mWh'
+good 'f energy_format 3F000000 1' '= 3f000000 4 VAh'
+good 'f energy_format nan 0' '= nan 1 kWh'
+good 'f p_format 3eb851ec bf000000 1' '= c3fa0000 2 mW'
+good 'f p_format 42100000 bf000000 0' '= bf000000 3 VA'
+good 'f p_format nan 3f000000 1' '= 3f000000 1 W'
+good 'f p_format 42100000 nan 1' '= nan 3 W'
+good 'f no_neg_zero bf000000 0' '= bf000000'
+good 'f no_neg_zero beffffff +000' '= 00000000'
+good 'f no_neg_zero 80000000 255' '= 80000000'
+good 'f no_neg_zero nan 3' '= nan'
+good 'f bt_mode 1 0' '= 40'
+good 'f bt_mode 0 +002' '= 24'
+good 'f bt_mode 0 255' '= 32'
+values='3f800000 40000000 40400000 40800000 40a00000 40c00000'
+good "f vals 1 4 0 0 0 0 $values" '= 3f800000,2,W,0 40400000,3,V,0 40800000,4,A,0 3f800000 40a00000,4,Wh,0 3f800000,2,V,0'
+good "f vals 2 3 1 0 1 1 $values" '= 40c00000,4,VAh,0 00000000,2,V,1 457a0000,2,mA,0 00000000 00000000,2,VA,1 00000000,2,V,1'
+good "f vals 0 0 0 1 0 2 $values" '= 40c00000,4,VAh,0 40400000,4,V,0 00000000,2,uA,1 00000000 00000000,4,mW,1 00000000,4,mV,1'
+good "f vals +003 255 0 0 0 +255 nan nan nan nan nan nan" '= nan,3,kW,0 nan,1,V,0 nan,3,A,0 nan nan,3,kW,0 00000000,0,V,1'
+good 'f zero' "= p=00000000 s=00000000 q=00000000 pf=00000000 v=00000000 i=00000000 vdc=00000000 idc=00000000 f_ok=0 \
+burden_v=00000000 e_wh=00000000 vah=00000000 secs=0 p_avg=nan vr=3 ik=5 v_auto=1 i_auto=1 alt=0 dc=0 coup=1 comp=0 run=1 \
+v_ol=0 i_ol=0 over=0 over_left=0 sph=0 main=0 hint=0 vp=00000000,00000000 ip=00000000,00000000 pp=00000000,00000000"
+
+# Bools are 0 or 1; a range, a number of decimals and the main readout are bytes.
+for mark in 2 -1 +1 00 01 10 true yes 0x1 - nan '1\0000'; do
+    bad "f energy_format 3f000000 $mark"
+    bad "f p_format 3f800000 3f800000 $mark"
+    bad "f bt_mode $mark 3"
+    bad "f vals 1 1 $mark 0 0 0 $values"
+    bad "f vals 1 1 0 $mark 0 0 $values"
+    bad "f vals 1 1 0 0 $mark 0 $values"
+done
+for number in 256 -1 -0 +256 99999999999999999999 + +-1 1.0 0x1 a nan '1\0000'; do
+    bad "f no_neg_zero 80000000 $number"
+    bad "f bt_mode 0 $number"
+    bad "f vals $number 1 0 0 0 0 $values"
+    bad "f vals 1 $number 0 0 0 0 $values"
+    bad "f vals 1 1 0 0 0 $number $values"
+done
+for line in 'f zero 0' 'f zero zero' 'f zero -' 'zero' 'f zeros' 'f ZERO' 'f zero\0000'; do bad "$line"; done
 
 # Meters. Before one is made, and after a refused one, there is no gain in force.
 says "$gain" '?\n'

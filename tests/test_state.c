@@ -4,6 +4,7 @@
  *
  * The last line counts the checks, and the status is 1 where one failed. */
 #include "fields.h"
+#include "meters.h"
 
 static uint64_t checks, failed;
 
@@ -84,18 +85,6 @@ static void check_made(uint64_t *state)
 }
 
 /* ---- what C writes ---- */
-
-/* Any bits in each field; a bool is yes or no. */
-static struct leaf_pw some_meter(uint64_t *state)
-{
-    struct leaf_pw pw = {.barred = 0};
-    for (const struct field *f = fields; f < fields + FIELDS; f++)
-        for (size_t k = 0; k < f->count; k++) {
-            uint64_t r = next(state);
-            set_value(&pw, f, k, f->kind == BOOL || f->kind == STAMPED ? r & 1 : r);
-        }
-    return pw;
-}
 
 /* A frame that is not ready changes nothing. In DC coupling it has no AD1 either. */
 static void check_not_ready(uint64_t *state)

@@ -61,6 +61,14 @@ static bool read_whole(struct word w, enum kind kind, uint64_t *value)
     return true;
 }
 
+static bool read_unit(struct word w, uint64_t *unit)
+{
+    for (*unit = 0; *unit < PW_UNITS; ++*unit)
+        if (word_is(w, pw_unit_name((uint8_t)*unit)))
+            return true;
+    return false;
+}
+
 /* One value of a field, as a dump spells it. A minus sign alone is none, which is stored as 0. */
 static bool read_value(struct word w, enum kind kind, uint64_t *value)
 {
@@ -73,6 +81,8 @@ static bool read_value(struct word w, enum kind kind, uint64_t *value)
         *value = yes ? 1 : 0;
     else if (kind == F32 && read_float(w, &x))
         *value = bits32(x);
+    else if (kind == UNIT)
+        return read_unit(w, value);
     else
         return kind != BOOL && kind != F32 && (none || read_whole(w, kind, value));
     return true;
@@ -90,15 +100,23 @@ static struct word cut(struct word *rest, const char *separators)
     return head;
 }
 
-/* The fields that some dump has given. */
-static bool given[FIELDS];
+/* A table of fields, and which of them some dump has given. */
+struct table {
+    const struct field *fields;
+    size_t length;
+    bool *given;
+};
+static bool given_pw[FIELDS], given_vals[VALUE_FIELDS], given_state[VALUE_FIELDS], given_shown[SHOWN_FIELDS];
+static const struct table of_pw = {fields, FIELDS, given_pw}, of_vals = {value_fields, VALUE_FIELDS, given_vals},
+                          of_state = {value_fields, VALUE_FIELDS, given_state},
+                          of_shown = {shown_fields, SHOWN_FIELDS, given_shown};
 
 /* Value number `number` of a key, counted from index `from`, in each field that it belongs to. */
-static bool store(struct leaf_pw *pw, struct word key, size_t from, size_t number, struct word text)
+static bool store(struct table t, void *record, struct word key, size_t from, size_t number, struct word text)
 {
     bool stored = false;
-    for (size_t j = 0; j < FIELDS; j++) {
-        const struct field *f = &fields[j];
+    for (size_t j = 0; j < t.length; j++) {
+        const struct field *f = &t.fields[j];
         if (f->role == MADE || !word_is(key, f->key))
             continue;
         bool one = f->count == 1;
@@ -108,14 +126,14 @@ static bool store(struct leaf_pw *pw, struct word key, size_t from, size_t numbe
         uint64_t value;
         if (k >= f->count || !read_value(text, f->kind, &value))
             return false;
-        set_value(pw, f, k, value);
-        stored = given[j] = true;
+        set_value(record, f, k, value);
+        stored = t.given[j] = true;
     }
     return stored;
 }
 
 /* A word KEY=VALUE or KEY.N=VALUE. */
-static bool store_word(struct leaf_pw *pw, struct word w)
+static bool store_word(struct table t, void *record, struct word w)
 {
     struct word name = cut(&w, "=");
     struct word key = cut(&name, ".");
@@ -123,18 +141,89 @@ static bool store_word(struct leaf_pw *pw, struct word w)
     if (name.length > 0 && !read_u64(name, &from))
         return false;
     for (size_t number = 0; w.length > 0; number++)
-        if (from >= LEAF_RING || !store(pw, key, from, number, cut(&w, ",:")))
+        if (from >= LEAF_RING || !store(t, record, key, from, number, cut(&w, ",:")))
             return false;
     return true;
 }
 
-static void store_line(struct leaf_pw *pw)
+static bool store_words(struct table t, void *record, struct word rest)
+{
+    while (rest.length > 0)
+        if (!store_word(t, record, cut(&rest, " ")))
+            return false;
+    return true;
+}
+
+static void check_given(struct table t, size_t number)
+{
+    for (size_t j = 0; j < t.length; j++)
+        if (t.fields[j].role != MADE && !t.given[j])
+            stop_at(number, "a field was never dumped");
+}
+
+/* `vals none`, or `vals` and words, which are the state's as well. */
+static bool store_vals(struct call *c, struct word rest)
+{
+    if (!word_is(cut(&rest, " "), "vals"))
+        return false;
+    c->vals.measured = !word_is(rest, "none");
+    if (!c->vals.measured)
+        return true;
+    if (!store_words(of_vals, &c->vals.vals, rest))
+        return false;
+    check_given(of_vals, line.number);
+    c->state = c->vals.vals;
+    return true;
+}
+
+static bool read_val(struct word w, struct leaf_val *v)
+{
+    uint64_t number, decimals, unit, over;
+    if (!read_value(cut(&w, ","), F32, &number) || !read_value(cut(&w, ","), U8, &decimals)
+        || !read_value(cut(&w, ","), UNIT, &unit) || !read_value(w, BOOL, &over))
+        return false;
+    *v = (struct leaf_val){float_of((uint32_t)number), (uint8_t)decimals, (uint8_t)unit, over != 0};
+    return true;
+}
+
+/* The number of a text of pw_partial; 0 where it is none of them. */
+static uint8_t partial_text(struct word text)
+{
+    for (uint8_t k = 1; k < PARTIAL_TEXTS; k++)
+        if (word_is(text, partial_texts[k]))
+            return k;
+    return 0;
+}
+
+/* `partial=none`; or `partial=` and a value or a minus sign, a space and the text between quotation
+ * marks. Words follow. */
+static bool store_partial(struct call *c, struct word rest)
+{
+    struct leaf_partial *p = &c->shown.partial;
+    memset(p, 0, sizeof *p);
+    if (!word_is(cut(&rest, "="), "partial"))
+        return false;
+    struct word volts = cut(&rest, " ");
+    if (word_is(volts, "none"))
+        return store_words(of_shown, &c->shown, rest);
+    p->with_volts = !word_is(volts, "-");
+    if ((p->with_volts && !read_val(volts, &p->volts)) || cut(&rest, "\"").length != 0)
+        return false;
+    p->text = partial_text(cut(&rest, "\""));
+    return p->text != 0 && cut(&rest, " ").length == 0 && store_words(of_shown, &c->shown, rest);
+}
+
+static bool store_line(struct call *c)
 {
     struct word rest = {line.text, line.length};
-    cut(&rest, " ");
-    while (rest.length > 0)
-        if (!store_word(pw, cut(&rest, " ")))
-            stop_at(line.number, "no dump of a meter");
+    struct word head = cut(&rest, " ");
+    if (word_is(head, "D8"))
+        return store_vals(c, rest);
+    if (word_is(head, "D9"))
+        return word_is(cut(&rest, " "), "state") && store_words(of_state, &c->state, rest);
+    if (word_is(head, "D10"))
+        return store_words(of_shown, &c->shown, rest);
+    return word_is(head, "D11") ? store_partial(c, rest) : store_words(of_pw, &c->after, rest);
 }
 
 /* ---- calls ---- */
@@ -167,25 +256,18 @@ static bool read_meter(struct call *c)
     return true;
 }
 
-static void check_given(size_t number)
-{
-    for (size_t j = 0; j < FIELDS; j++)
-        if (fields[j].role != MADE && !given[j])
-            stop_at(number, "a field was never dumped");
-}
-
-/* Whether the line is to be passed over: a comment, and what says nothing of the state. */
+/* Whether the line is to be passed over: a comment, and a reading. */
 static bool is_beside(void)
 {
-    char a = line.text[0], b = line.text[1];
-    return line.length == 0 || a == '#' || a == 'R'
-           || (a == 'D' && (b == '8' || b == '9' || (b == '1' && line.text[2] != ' ')));
+    return line.length == 0 || line.text[0] == '#' || line.text[0] == 'R';
 }
 
 /* The lines up to the next call. */
 static void read_rest(FILE *in, struct call *c)
 {
     bool answered = false;
+    if (c->vals.measured)
+        c->state = c->vals.vals;
     while (next_line(in)) {
         if (line.text[0] == '>') {
             line.again = true;
@@ -193,12 +275,10 @@ static void read_rest(FILE *in, struct call *c)
         }
         if (is_beside())
             continue;
-        if (line.text[0] == 'D')
-            store_line(&c->after);
-        else if (!answered && read_answer(c))
-            answered = true;
-        else
-            stop_at(line.number, "no answer");
+        bool dump = line.text[0] == 'D';
+        if (dump ? !store_line(c) : answered || !read_answer(c))
+            stop_at(line.number, dump ? "no dump of a meter" : "no answer");
+        answered = answered || !dump;
     }
     if (!answered)
         stop_at(c->line, "is not answered");
@@ -225,7 +305,9 @@ bool next_call(FILE *in, struct call *c)
     if (word_is(c->words[0], "meter") && c->refusal == 0) {
         if (!read_meter(c))
             stop_at(c->line, "no meter");
-        check_given(c->line);
+        check_given(of_pw, c->line);
+        check_given(of_state, c->line);
+        check_given(of_shown, c->line);
     }
     return true;
 }

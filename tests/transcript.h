@@ -2,19 +2,22 @@
  *
  * Each call stands behind `> `, as in a script. The answer follows, and lines that begin with `D`
  * and have words KEY=VALUE of the dump after the call, at least those that are not as in the dump
- * before. KEY.N=VALUE gives the values from index N on. Comments, and lines that say nothing of the
- * state (of the dump D8 and above, and R), are passed over. */
+ * before. KEY.N=VALUE gives the values from index N on. D8 to D11 have lines of their own, alike; a
+ * D8 that has no values says `none`, and D9 is as D8 where that has values and no line D9 follows.
+ * Comments, and the line R of a reading, are passed over. */
 #ifndef TRANSCRIPT_H
 #define TRANSCRIPT_H
 
 #include "leaves.h"
+#include "shown.h"
 #include "words.h"
 
 #include <stdio.h>
 
 enum { CALL_WORDS = 10 };
 
-/* A call, its answer, and the meter before and after it. */
+/* A call, its answer, the meter before and after it, and what was read off it after it. Where
+ * nothing is measured the values are those that were last. */
 struct call {
     size_t line; /* the number of its line */
     char *text;
@@ -25,6 +28,9 @@ struct call {
     bool reading;
     struct leaf_pw before;
     struct leaf_pw after;
+    struct leaf_vals vals;
+    struct leaf_power_vals state;
+    struct shown shown;
 };
 
 /* The next call; false at the end. A line that is not understood ends the program with status 1,

@@ -15,7 +15,7 @@ pub struct Figures {
 
 // The volts at the load: v_m and p_m are measured in front of the resistance r, where i flows. A
 // square below zero, or a NaN, counts as zero; of an infinite one the root is a NaN.
-fn load_volts(v_m: f32, p_m: f32, i: f32, r: f32) -> f32
+pub fn load_volts(v_m: f32, p_m: f32, i: f32, r: f32) -> f32
     ensures { λ v. ⌜ v ≡ loadVolts «v_m» «p_m» i r ⌝ }
 {
     let v2 = v_m * v_m - 2.0 * r * p_m + r * r * i * i;

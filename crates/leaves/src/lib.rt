@@ -4,7 +4,7 @@
 ghost use mathlib.Core.Path.{_≡_};
 ghost use lib.IntN.{pos};
 ghost use lib.Ieee.{binary32, binary64, ofInt, toSigned};
-ghost use Rattle.numbers.specs.Binary32.{isFinite, absOf, maxOf, clampOf};
+ghost use Rattle.numbers.specs.Binary32.{isFinite, absOf, maxOf, signumOf, clampOf};
 ghost use Rattle.numbers.specs.Convert.{narrow};
 ghost use Rattle.numbers.specs.Root.{sqrtOf, hypotOf};
 ghost use Rattle.codes.specs.Flags.{holdsAd1, holdsRmsLpf};
@@ -12,6 +12,7 @@ ghost use Rattle.codes.specs.Flags.{holdsAd1, holdsRmsLpf};
 pub mod figured;
 pub mod measured;
 pub mod tabled;
+pub mod valued;
 
 #[no_mangle]
 pub extern "C" fn leaf_u64_to_f32(n: u64) -> f32
@@ -74,6 +75,13 @@ pub extern "C" fn leaf_abs(x: f32) -> f32
     ensures { λ r. ⌜ r ≡ absOf x ⌝ }
 {
     numbers::abs(x)
+}
+
+#[no_mangle]
+pub extern "C" fn leaf_signum(x: f32) -> f32
+    ensures { λ r. ⌜ r ≡ signumOf x ⌝ }
+{
+    numbers::signum(x)
 }
 
 #[no_mangle]

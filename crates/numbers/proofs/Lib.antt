@@ -1,3 +1,4 @@
+pub mod Cases
 pub mod Shift
 pub mod Pattern
 pub mod Order

@@ -1,7 +1,7 @@
 -- Binary32 as the source computes with it: its operators, and `is_finite`, `abs`, `max` and `clamp` of Rust's `f32`, over every value.
 -- A value is lib.Ieee's: `nan` (there is only one, so one NaN equals another), `inf s`, or `fin s m e`, which is m * 2 ^ e; the sign s is true for minus.
 use mathlib.Core.Bool.{Bool, true, false, cond}
-use lib.Ieee.{Float, nan, inf, fin, binary32, add, sub, mul, div, lt, isNan, ofBits}
+use lib.Ieee.{Float, nan, inf, fin, binary32, add, sub, mul, div, lt, neg, isNan, ofBits}
 
 -- IEEE 754's operations, each rounded to binary32
 infixl 6 _+f_ _-f_
@@ -51,3 +51,7 @@ maxOf a b = cond (isNan a) b (cond (isNan b) a (cond (lt a b) b (cond (lt b a) a
 -- `clamp`: lo for what is below it, hi for what is above it; a NaN stays. (Rust's panics where not lo <= hi; here lo is then tested first.)
 unfoldable pub clampOf : Float → Float → Float → Float
 clampOf x lo hi = cond (lt x lo) lo (cond (lt hi x) hi x)
+
+-- `signum`: 1.0, or -1.0 where the sign is minus, of a zero too; a NaN stays a NaN
+unfoldable pub signumOf : Float → Float
+signumOf x = cond (isNan x) x (cond (isMinus x) (neg oneF) oneF)

@@ -4,8 +4,8 @@
 ghost use mathlib.Core.Path.{_≡_};
 ghost use Prim.Native.Nat.{_≤_, _<_, _^_};
 ghost use lib.IntN.{pos};
-ghost use lib.Ieee.{binary32, binary64, ofInt, toSigned, ofBits};
-ghost use Rattle.numbers.specs.Binary32.{isFinite, absOf, maxOf, clampOf};
+ghost use lib.Ieee.{nan, binary32, binary64, ofInt, toSigned, ofBits};
+ghost use Rattle.numbers.specs.Binary32.{isFinite, absOf, maxOf, signumOf, clampOf};
 ghost use Rattle.numbers.specs.Convert.{roundedQuotient, narrow};
 ghost use Rattle.numbers.specs.Root.{heron, sqrtOf, hypotOf};
 
@@ -17,6 +17,13 @@ pub fn is_finite(x: f32) -> bool
 {
     let infinity = 1.0 / 0.0;
     if x < infinity { -infinity < x } else { false }
+}
+
+// A NaN. The kit refuses a constant that holds one.
+pub fn nan() -> f32
+    ensures { λ r. ⌜ r ≡ nan ⌝ }
+{
+    0.0 / 0.0
 }
 
 // The size of x with a plus sign; a NaN stays a NaN. (A NaN has no bits of its own here, so it is
@@ -48,6 +55,20 @@ pub fn max(a: f32, b: f32) -> f32
         return a;
     }
     if f32::to_bits(a) >= 0x8000_0000 { b } else { a }
+}
+
+// 1.0 or minus 1.0 by the sign, of a zero too; a NaN stays.
+pub fn signum(x: f32) -> f32
+    ensures { λ r. ⌜ r ≡ signumOf x ⌝ }
+{
+    if x != x {
+        return x;
+    }
+    if f32::to_bits(x) >= 0x8000_0000 {
+        -1.0
+    } else {
+        1.0
+    }
 }
 
 // x held to lo..hi; a NaN stays. Where hi is below lo, what is below lo gives lo.

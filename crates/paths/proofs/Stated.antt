@@ -1,11 +1,12 @@
 -- What follows from the definitions: the ring notes every RMS and LPF result, dropped or turned down too, and every AD1 result that is taken; a result turned down changes nothing else, a V range that changes ends the DC path, a frame leaves the automatic marks, ranges within the tables stay so, and of the phase calibration only the sum and its count change.
-use mathlib.Core.Path.{_≡_, refl, ap, _∙_}
-use mathlib.Core.Bool.{Bool, true, false, cond}
-use Prim.Native.Nat.{ℕ, _+_, _%_}
+use mathlib.Core.Path.{_≡_, refl, sym, subst, _∙_}
+use mathlib.Core.Bool.{Bool, true, false}
+use mathlib.Core.List.{List}
+use Prim.Native.Nat.{ℕ, _-_, _%_}
 use native.Mathlib.Omega.{arith}
 use lib.Dec.{eqb, ltb}
 use lib.IntN.{pos}
-use lib.ListN.{length, getD}
+use lib.ListN.{length, getD, set}
 use lib.Seq.{getD-set-same, getD-set-other}
 use Rattle.codes.specs.declared.Codes.{Codes}
 use Rattle.codes.specs.Flags.{holdsAd1, holdsRmsLpf}
@@ -19,10 +20,11 @@ use Rattle.state.specs.declared.Ring.{Ring}
 use Rattle.state.specs.declared.Ranges.{Ranges}
 use Rattle.state.specs.Counting.{countUp}
 use Rattle.takes.specs.declared.scales.Instrument.{Instrument}
-use Rattle.takes.specs.Take.{take, takeAlt, dcVTaken, dcITaken, PhaseKept}
+use Rattle.takes.specs.declared.take.Taken.{Taken}
+use Rattle.takes.specs.Take.{PhaseKept}
+use Rattle.numbers.proofs.Cases.{either}
 use Rattle.takes.proofs.Stated.{take-keeps-phase, alt-keeps-phase, dc-keeps-phase}
 use Rattle.ranging.specs.declared.autorange.Ranging.{Ranging}
-use Rattle.ranging.specs.declared.autorange.Ranged.{Ranged}
 use Rattle.ranging.specs.Bounds.{InBounds}
 use Rattle.ranging.specs.Autorange.{autorangeV, autorangeI}
 use Rattle.ranging.proofs.Stated.{v-leaves, i-leaves, v-bounds, i-bounds}
@@ -30,67 +32,83 @@ use Rattle.paths.specs.declared.measuring.Measuring.{Measuring}
 use Rattle.paths.specs.declared.measuring.Outcome.{Outcome}
 use Rattle.paths.specs.declared.ring.Raw.{Raw}
 use Rattle.paths.specs.Ring.{noted, noteResult, noteCurrent}
-use Rattle.paths.specs.Measuring.{ends, goesOn, withTaken, withCycle, withRing, measuredIn, withMeasured, rangingIn, rangedTo}
-use Rattle.paths.specs.MethodB.{bAutorange, bUnranged, bNext, bFrame}
-use Rattle.paths.specs.Alternating.{altAutorange, switched, altPhaseDone, altNext, altFrame}
-use Rattle.paths.specs.Dc.{dcVResult, dcVPart, dcIResult, dcIPart, dcFrame}
-use Rattle.paths.specs.Frame.{frame}
+use Rattle.paths.specs.Measuring.{ends, goesOn, withSkip, withSkipY, withTaken, withCycle, withRing, measuredIn, withMeasured, rangingIn, autorange, rangedTo}
+use Rattle.paths.specs.MethodB.{advanced, bUnranged, bNext}
+use Rattle.paths.specs.Alternating.{switched, altPhaseDone, altNext}
+use Rattle.paths.specs.Dc.{dcVAfter, dcVResult, dcVPart, dcIAfter, dcIResult, dcIPart, dcFrame}
+use Rattle.paths.specs.Frame.{resultStat, takeBy, methodFrame, frame}
 use Rattle.paths.specs.Whole.{instrumentIn, measuringIn, withMeasuring}
 
--- one of two has what both have
-either : {A : Type 0} (P : A → Type 0) (t : Bool) (x y : A) → P x → P y → P (cond t x y)
-either P true x y f g = f
-either P false x y f g = g
+-- ---- each path by cases: what holds however a result goes holds of the path
+
+module _ (w : Instrument) (mode : Mode) (codes : Codes) (now : ℕ) (m : Measuring) where
+  -- what stands once a result is in the ring, once it is taken, and once the phase has counted it
+  abbrev inRing : Measuring
+  inRing = withRing m (noteResult (m .ring) now (resultStat mode (m .cycle)) (ltb 0 (m .cycle .skip)) codes)
+
+  abbrev taken : Measuring
+  taken = withMeasured inRing (takeBy w mode codes m .measured)
+
+  abbrev counted : Measuring
+  counted = withCycle m (withTaken (m .cycle) (countUp (m .cycle .taken)))
+
+  -- once a voltage of DC coupling is in it
+  abbrev dcVInRing : Measuring
+  dcVInRing = withRing m (noteResult (m .ring) now 3 (ltb 0 (m .cycle .«skip_y»)) codes)
+
+  module _ (P : Outcome → Type 0) where
+    -- both methods: dropped, turned down, or taken
+    method-cases : P (ends (withCycle inRing (withSkip (m .cycle) (m .cycle .skip - 1)))) → P (ends inRing) → P (altNext w mode now taken) → P (bNext w mode now taken) → P (methodFrame w mode codes now m)
+    unfolding methodFrame
+    method-cases dropped down alt b =
+        either P (ltb 0 (m .cycle .skip)) dropped (either P (takeBy w mode codes m .accepted) (either P (mode .alt) alt b) down)
+
+    -- then in method B: it was XY, or a range changes, or none does
+    b-cases : P (goesOn (advanced m)) → P (rangedTo m (autorange w mode (eqb (m .cycle .stat) r34Yy) now m)) → P (bUnranged w m) → P (bNext w mode now m)
+    unfolding bNext
+    b-cases xy ranged unranged = either P (eqb (m .cycle .stat) r34Xy) xy (either P (autorange w mode (eqb (m .cycle .stat) r34Yy) now m .mark .set) ranged unranged)
+
+    -- then in the alternating method: the phase goes on, or a range changes, or the row does
+    alt-cases : P (goesOn counted) → P (rangedTo counted (autorange w mode (eqb (m .cycle .phase % 2) 0) now counted)) → P (switched now counted) → P (altNext w mode now m)
+    unfolding altNext altPhaseDone
+    alt-cases more ranged other = either P (ltb (counted .cycle .taken) altN) more (either P (autorange w mode (eqb (m .cycle .phase % 2) 0) now counted .mark .set) ranged other)
+
+    -- the voltage's part of the DC path: dropped, or taken, and then a range changes or not
+    dc-v-cases : let n = dcVAfter w codes dcVInRing in
+        P (ends (withCycle dcVInRing (withSkipY (m .cycle) (m .cycle .«skip_y» - 1))))
+        → P (rangedTo n (autorange w mode true now n)) → P (ends n) → P (dcVPart w mode codes now m)
+    unfolding dcVPart dcVResult
+    dc-v-cases dropped ranged unranged =
+        let n = dcVAfter w codes dcVInRing in
+        either P (ltb 0 (m .cycle .«skip_y»)) dropped (either P (autorange w mode true now n .mark .set) ranged unranged)
+
+    -- the current's part of it, taken: a range changes or not
+    dc-i-cases : let n = dcIAfter w codes m in
+        P (rangedTo n (autorange w mode false now n)) → P (goesOn n) → P (dcIResult w mode codes now m)
+    unfolding dcIResult
+    dc-i-cases = let n = dcIAfter w codes m in either P (autorange w mode false now n .mark .set)
 
 -- ---- document 01: "The ring notes it all the same"
 
 module _ (w : Instrument) (mode : Mode) (codes : Codes) (now : ℕ) (m : Measuring) where
-  -- method B: dropped, turned down or taken, whatever comes after
-  pub b-notes : bFrame w mode codes now m .measuring .ring ≡ noteResult (m .ring) now (m .cycle .stat) (ltb 0 (m .cycle .skip)) codes
-  unfolding bFrame bNext bUnranged ends goesOn rangedTo withMeasured
-  b-notes =
-      let disc = ltb 0 (m .cycle .skip) in
-      let r = noteResult (m .ring) now (m .cycle .stat) disc codes in
-      let t = take w (m .ranges) (m .cycle .stat) codes (measuredIn m) in
-      let n = withMeasured (withRing m r) (t .measured) in
-      let P : Outcome → Type 0 = λ o. o .measuring .ring ≡ r in
-      either P disc _ _ refl
-      (either P (t .accepted) _ _
-      (either P (eqb (n .cycle .stat) r34Xy) _ _ refl
-      (either P (bAutorange w mode now n .mark .set) _ _ refl refl)) refl)
-
-  -- the alternating method
-  pub alt-notes : altFrame w mode codes now m .measuring .ring ≡ noteResult (m .ring) now (1 + m .cycle .phase % 2) (ltb 0 (m .cycle .skip)) codes
-  unfolding altFrame altNext altPhaseDone switched ends goesOn rangedTo withMeasured
-  alt-notes =
-      let disc = ltb 0 (m .cycle .skip) in
-      let r = noteResult (m .ring) now (1 + m .cycle .phase % 2) disc codes in
-      let t = takeAlt w (m .ranges) (m .cycle .phase) codes (measuredIn m) in
-      let n = withMeasured (withRing m r) (t .measured) in
-      let k = countUp (n .cycle .taken) in
-      let P : Outcome → Type 0 = λ o. o .measuring .ring ≡ r in
-      either P disc _ _ refl
-      (either P (t .accepted) _ _
-      (either P (ltb k altN) _ _ refl
-      (either P (altAutorange w mode now (withCycle n (withTaken (n .cycle) k)) .mark .set) _ _ refl refl)) refl)
+  -- both methods: dropped, turned down or taken, whatever comes after
+  pub method-notes : methodFrame w mode codes now m .measuring .ring ≡ noteResult (m .ring) now (resultStat mode (m .cycle)) (ltb 0 (m .cycle .skip)) codes
+  unfolding bUnranged switched ends goesOn rangedTo withMeasured
+  method-notes =
+      let n = taken w mode codes now m in
+      let P : Outcome → Type 0 = λ o. o .measuring .ring ≡ inRing w mode codes now m .ring in
+      method-cases w mode codes now m P refl refl (alt-cases w mode codes now n P refl refl refl) (b-cases w mode codes now n P refl refl refl)
 
   -- the voltage's part of the DC path
   pub dc-v-notes : dcVPart w mode codes now m .measuring .ring ≡ noteResult (m .ring) now 3 (ltb 0 (m .cycle .«skip_y»)) codes
-  unfolding dcVPart dcVResult ends rangedTo withMeasured
-  dc-v-notes =
-      let disc = ltb 0 (m .cycle .«skip_y») in
-      let r = noteResult (m .ring) now 3 disc codes in
-      let n = withMeasured (withRing m r) (dcVTaken w (m .ranges .vr) codes (measuredIn (withRing m r))) in
-      let P : Outcome → Type 0 = λ o. o .measuring .ring ≡ r in
-      either P disc _ _ refl (either P (autorangeV (w .description) mode (n .parts) (rangingIn n) now .mark .set) _ _ refl refl)
+  unfolding ends rangedTo withMeasured
+  dc-v-notes = dc-v-cases w mode codes now m (λ o. o .measuring .ring ≡ dcVInRing w mode codes now m .ring) refl refl refl
 
   -- the current's part of it: a result that is taken, and not one that is dropped
   pub dc-i-notes : (flags : ℕ) → holdsAd1 flags ≡ true → ltb 0 (m .cycle .skip) ≡ false → dcIPart w mode flags codes now m .measuring .ring ≡ noteCurrent (m .ring) (codes .ad1)
-  unfolding dcIPart dcIResult goesOn rangedTo withMeasured
-  dc-i-notes flags ready taken =
-      let n = withMeasured (withRing m (noteCurrent (m .ring) (codes .ad1))) (dcITaken w (m .ranges .ik) codes (measuredIn m)) in
-      let P : Outcome → Type 0 = λ o. o .measuring .ring ≡ noteCurrent (m .ring) (codes .ad1) in
-      rw (ready, taken) (either P (autorangeI (w .description) mode (n .parts) (rangingIn n) now .mark .set) _ _ refl refl)
+  unfolding dcIPart goesOn rangedTo withMeasured
+  dc-i-notes flags ready kept =
+      rw (ready, kept) (dc-i-cases w mode codes now m (λ o. o .measuring .ring ≡ noteCurrent (m .ring) (codes .ad1)) refl refl)
 
   pub dc-i-drops : (flags : ℕ) → holdsAd1 flags ≡ true → ltb 0 (m .cycle .skip) ≡ true → dcIPart w mode flags codes now m .measuring .ring ≡ m .ring
   unfolding dcIPart ends
@@ -102,15 +120,10 @@ module _ (w : Instrument) (mode : Mode) (codes : Codes) (now : ℕ) (m : Measuri
   next-phase-unmarked = refl
 
   -- ---- a result turned down changes nothing but the ring
-  pub down-changes-ring : ltb 0 (m .cycle .skip) ≡ false → take w (m .ranges) (m .cycle .stat) codes (measuredIn m) .accepted ≡ false
-      → bFrame w mode codes now m ≡ ends (withRing m (noteResult (m .ring) now (m .cycle .stat) false codes))
-  unfolding bFrame
-  down-changes-ring taken down = rw (taken, down)
-
-  pub alt-down-changes-ring : ltb 0 (m .cycle .skip) ≡ false → takeAlt w (m .ranges) (m .cycle .phase) codes (measuredIn m) .accepted ≡ false
-      → altFrame w mode codes now m ≡ ends (withRing m (noteResult (m .ring) now (1 + m .cycle .phase % 2) false codes))
-  unfolding altFrame
-  alt-down-changes-ring taken down = rw (taken, down)
+  pub down-changes-ring : ltb 0 (m .cycle .skip) ≡ false → takeBy w mode codes m .accepted ≡ false
+      → methodFrame w mode codes now m ≡ ends (withRing m (noteResult (m .ring) now (resultStat mode (m .cycle)) false codes))
+  unfolding methodFrame
+  down-changes-ring kept down = rw (kept, down)
 
   -- ---- the DC path ends where the V range changes: AD1 is not looked at
   pub v-range-ends : (flags : ℕ) → holdsRmsLpf flags ≡ true → dcVPart w mode codes now m .mark .set ≡ true → dcFrame w mode flags codes now m ≡ dcVPart w mode codes now m
@@ -126,167 +139,94 @@ module _ (w : Instrument) (mode : Mode) (codes : Codes) (now : ℕ) (m : Measuri
   unfolding frame dcFrame dcIPart
   dc-not-ready flags dc none no-ad1 = rw (dc, none, no-ad1)
 
--- ---- what both autoranges keep of the ranges and the barred unit, a frame keeps
-module _ (R : Ranges → ℕ → Type 0)
-    (keeps-v : (d : Description) (mode : Mode) (p : Parts) (g : Ranging) (now : ℕ) → R (g .ranges) (g .barred) → R (autorangeV d mode p g now .ranging .ranges) (autorangeV d mode p g now .ranging .barred))
-    (keeps-i : (d : Description) (mode : Mode) (p : Parts) (g : Ranging) (now : ℕ) → R (g .ranges) (g .barred) → R (autorangeI d mode p g now .ranging .ranges) (autorangeI d mode p g now .ranging .barred))
+-- ---- what both autoranges keep of the ranges and the barred unit, and every take of the phase calibration, a frame keeps
+module _ (R : Ranges → ℕ → PhaseCal → Type 0)
+    (keeps-v : (d : Description) (mode : Mode) (p : Parts) (g : Ranging) (now : ℕ) (c : PhaseCal) → R (g .ranges) (g .barred) c → let h = autorangeV d mode p g now .ranging in R (h .ranges) (h .barred) c)
+    (keeps-i : (d : Description) (mode : Mode) (p : Parts) (g : Ranging) (now : ℕ) (c : PhaseCal) → R (g .ranges) (g .barred) c → let h = autorangeI d mode p g now .ranging in R (h .ranges) (h .barred) c)
+    (keeps-c : (r : Ranges) (barred : ℕ) (a b : PhaseCal) → PhaseKept a b → R r barred b → R r barred a)
     (w : Instrument) (mode : Mode) (codes : Codes) (now : ℕ) where
+  abbrev Held : Measuring → Type 0
+  Held m = R (m .ranges) (m .barred) (m .«phase_cal»)
+
   abbrev Keeps : Outcome → Type 0
-  Keeps o = R (o .measuring .ranges) (o .measuring .barred)
+  Keeps o = Held (o .measuring)
 
-  abbrev Ranges-kept : Ranged → Type 0
-  Ranges-kept r = R (r .ranging .ranges) (r .ranging .barred)
+  ranged : (v : Bool) (m : Measuring) → Held m → Keeps (rangedTo m (autorange w mode v now m))
+  unfolding autorange rangingIn rangedTo
+  ranged true m h = keeps-v (w .description) mode (m .parts) (rangingIn m) now (m .«phase_cal») h
+  ranged false m h = keeps-i (w .description) mode (m .parts) (rangingIn m) now (m .«phase_cal») h
 
-  ranged-v : (m : Measuring) → R (m .ranges) (m .barred) → Ranges-kept (autorangeV (w .description) mode (m .parts) (rangingIn m) now)
-  unfolding rangingIn
-  ranged-v m h = keeps-v (w .description) mode (m .parts) (rangingIn m) now h
+  -- every take of the two methods
+  take-keeps : (m : Measuring) → Held m → Held (taken w mode codes now m)
+  unfolding withMeasured measuredIn
+  take-keeps m h =
+      either (λ (t : Taken). R (m .ranges) (m .barred) (t .measured .«phase_cal»)) (mode .alt)
+      (subst (R (m .ranges) (m .barred)) (sym (alt-keeps-phase w (m .ranges) codes (measuredIn m) (m .cycle .phase))) h)
+      (keeps-c (m .ranges) (m .barred) _ (m .«phase_cal») (take-keeps-phase w (m .ranges) codes (measuredIn m) (m .cycle .stat)) h)
 
-  ranged-i : (m : Measuring) → R (m .ranges) (m .barred) → Ranges-kept (autorangeI (w .description) mode (m .parts) (rangingIn m) now)
-  unfolding rangingIn
-  ranged-i m h = keeps-i (w .description) mode (m .parts) (rangingIn m) now h
+  method-keeps : (m : Measuring) → Held m → Keeps (methodFrame w mode codes now m)
+  unfolding bUnranged switched ends goesOn
+  method-keeps m h =
+      let n = taken w mode codes now m in
+      let k = take-keeps m h in
+      method-cases w mode codes now m Keeps h h
+      (alt-cases w mode codes now n Keeps k (ranged (eqb (n .cycle .phase % 2) 0) (counted w mode codes now n) k) k)
+      (b-cases w mode codes now n Keeps k (ranged (eqb (n .cycle .stat) r34Yy) n k) k)
 
-  b-ranged : (m : Measuring) → R (m .ranges) (m .barred) → Ranges-kept (bAutorange w mode now m)
-  unfolding bAutorange
-  b-ranged m h = either Ranges-kept (eqb (m .cycle .stat) r34Yy) _ _ (ranged-v m h) (ranged-i m h)
-
-  alt-ranged : (m : Measuring) → R (m .ranges) (m .barred) → Ranges-kept (altAutorange w mode now m)
-  unfolding altAutorange
-  alt-ranged m h = either Ranges-kept (eqb (m .cycle .phase % 2) 0) _ _ (ranged-v m h) (ranged-i m h)
-
-  b-keeps : (m : Measuring) → R (m .ranges) (m .barred) → Keeps (bFrame w mode codes now m)
-  unfolding bFrame bNext bUnranged ends goesOn rangedTo withMeasured
-  b-keeps m h =
-      let disc = ltb 0 (m .cycle .skip) in
-      let t = take w (m .ranges) (m .cycle .stat) codes (measuredIn m) in
-      let n = withMeasured (withRing m (noteResult (m .ring) now (m .cycle .stat) disc codes)) (t .measured) in
-      either Keeps disc _ _ h
-      (either Keeps (t .accepted) _ _
-      (either Keeps (eqb (n .cycle .stat) r34Xy) _ _ h
-      (either Keeps (bAutorange w mode now n .mark .set) _ _ (b-ranged n h) h)) h)
-
-  alt-keeps : (m : Measuring) → R (m .ranges) (m .barred) → Keeps (altFrame w mode codes now m)
-  unfolding altFrame altNext altPhaseDone switched ends goesOn rangedTo withMeasured
-  alt-keeps m h =
-      let disc = ltb 0 (m .cycle .skip) in
-      let t = takeAlt w (m .ranges) (m .cycle .phase) codes (measuredIn m) in
-      let n = withMeasured (withRing m (noteResult (m .ring) now (1 + m .cycle .phase % 2) disc codes)) (t .measured) in
-      let k = countUp (n .cycle .taken) in
-      let done = withCycle n (withTaken (n .cycle) k) in
-      either Keeps disc _ _ h
-      (either Keeps (t .accepted) _ _
-      (either Keeps (ltb k altN) _ _ h
-      (either Keeps (altAutorange w mode now done .mark .set) _ _ (alt-ranged done h) h)) h)
-
-  dc-v-keeps : (m : Measuring) → R (m .ranges) (m .barred) → Keeps (dcVPart w mode codes now m)
-  unfolding dcVPart dcVResult ends rangedTo withMeasured
+  dc-v-keeps : (m : Measuring) → Held m → Keeps (dcVPart w mode codes now m)
+  unfolding ends withMeasured measuredIn
   dc-v-keeps m h =
-      let disc = ltb 0 (m .cycle .«skip_y») in
-      let r = withRing m (noteResult (m .ring) now 3 disc codes) in
-      let n = withMeasured r (dcVTaken w (r .ranges .vr) codes (measuredIn r)) in
-      either Keeps disc _ _ h (either Keeps (autorangeV (w .description) mode (n .parts) (rangingIn n) now .mark .set) _ _ (ranged-v n h) h)
+      let noted = dcVInRing w mode codes now m in
+      let k = subst (R (m .ranges) (m .barred)) (sym (dc-keeps-phase w (m .ranges) codes (measuredIn noted) .0)) h in
+      dc-v-cases w mode codes now m Keeps h (ranged true (dcVAfter w codes noted) k) k
 
-  dc-i-keeps : (flags : ℕ) (m : Measuring) → R (m .ranges) (m .barred) → Keeps (dcIPart w mode flags codes now m)
-  unfolding dcIPart dcIResult ends goesOn rangedTo withMeasured
+  dc-i-keeps : (flags : ℕ) (m : Measuring) → Held m → Keeps (dcIPart w mode flags codes now m)
+  unfolding dcIPart ends goesOn withMeasured measuredIn
   dc-i-keeps flags m h =
-      let n = withMeasured (withRing m (noteCurrent (m .ring) (codes .ad1))) (dcITaken w (m .ranges .ik) codes (measuredIn m)) in
-      either Keeps (holdsAd1 flags) _ _
-      (either Keeps (ltb 0 (m .cycle .skip)) _ _ h
-      (either Keeps (autorangeI (w .description) mode (n .parts) (rangingIn n) now .mark .set) _ _ (ranged-i n h) h)) h
+      let k = subst (R (m .ranges) (m .barred)) (sym (dc-keeps-phase w (m .ranges) codes (measuredIn m) .1)) h in
+      either Keeps (holdsAd1 flags)
+      (either Keeps (ltb 0 (m .cycle .skip)) h (dc-i-cases w mode codes now m Keeps (ranged false (dcIAfter w codes m) k) k)) h
 
-  dc-keeps : (flags : ℕ) (m : Measuring) → R (m .ranges) (m .barred) → Keeps (dcFrame w mode flags codes now m)
+  dc-keeps : (flags : ℕ) (m : Measuring) → Held m → Keeps (dcFrame w mode flags codes now m)
   unfolding dcFrame
   dc-keeps flags m h =
       let v = dcVPart w mode codes now m in
       let e = dc-v-keeps m h in
-      either Keeps (holdsRmsLpf flags) _ _ (either Keeps (v .mark .set) _ _ e (dc-i-keeps flags (v .measuring) e)) (dc-i-keeps flags m h)
+      either Keeps (holdsRmsLpf flags) (either Keeps (v .mark .set) e (dc-i-keeps flags (v .measuring) e)) (dc-i-keeps flags m h)
 
-  pub frame-keeps : (flags : ℕ) (m : Measuring) → R (m .ranges) (m .barred) → Keeps (frame w mode flags codes now m)
+  pub frame-keeps : (flags : ℕ) (m : Measuring) → Held m → Keeps (frame w mode flags codes now m)
   unfolding frame ends
   frame-keeps flags m h =
-      either Keeps (mode .dc) _ _ (dc-keeps flags m h)
-      (either Keeps (holdsRmsLpf flags) _ _ (either Keeps (mode .alt) _ _ (alt-keeps m h) (b-keeps m h)) h)
+      either Keeps (mode .dc) (dc-keeps flags m h)
+      (either Keeps (holdsRmsLpf flags) (method-keeps m h) h)
 
--- ---- the automatic marks stay as they were
 module _ (w : Instrument) (mode : Mode) (codes : Codes) (now flags : ℕ) (m : Measuring) where
+  -- ---- the automatic marks stay as they were
   pub marks-stay : let r = frame w mode flags codes now m .measuring .ranges in (r .«v_auto» ≡ m .ranges .«v_auto») × (r .«i_auto» ≡ m .ranges .«i_auto»)
   marks-stay =
-      frame-keeps (λ r barred. (r .«v_auto» ≡ m .ranges .«v_auto») × (r .«i_auto» ≡ m .ranges .«i_auto»))
-      (λ d mo p g t h. let l = v-leaves d mo p g t in (l .0 ∙ h .0, l .1 ∙ h .1))
-      (λ d mo p g t h. let l = i-leaves d mo p g t in (l .0 ∙ h .0, l .1 ∙ h .1))
+      frame-keeps (λ r barred c. (r .«v_auto» ≡ m .ranges .«v_auto») × (r .«i_auto» ≡ m .ranges .«i_auto»))
+      (λ d mo p g t c h. let l = v-leaves d mo p g t in (l .0 ∙ h .0, l .1 ∙ h .1))
+      (λ d mo p g t c h. let l = i-leaves d mo p g t in (l .0 ∙ h .0, l .1 ∙ h .1))
+      (λ r barred a b k h. h)
       w mode codes now flags m (refl, refl)
 
   -- ---- ranges within the tables, and what is barred none, mA or uA, stay so
   pub bounds-stay : InBounds (m .ranges) (m .barred) → let o = frame w mode flags codes now m .measuring in InBounds (o .ranges) (o .barred)
   bounds-stay h =
-      frame-keeps InBounds v-bounds i-bounds
+      frame-keeps (λ r barred c. InBounds r barred)
+      (λ d mo p g t c. v-bounds d mo p g t)
+      (λ d mo p g t c. i-bounds d mo p g t)
+      (λ r barred a b k h. h)
       w mode codes now flags m h
 
--- ---- of the phase calibration a frame changes the sum and its count alone
-module _ (w : Instrument) (mode : Mode) (codes : Codes) (now : ℕ) where
-  same : (c : PhaseCal) → PhaseKept c c
-  same c = (refl, refl, refl, refl, refl)
-
-  b-phase : (m : Measuring) → PhaseKept (bFrame w mode codes now m .measuring .«phase_cal») (m .«phase_cal»)
-  unfolding bFrame bNext bUnranged ends goesOn rangedTo withMeasured measuredIn
-  b-phase m =
-      let disc = ltb 0 (m .cycle .skip) in
-      let t = take w (m .ranges) (m .cycle .stat) codes (measuredIn m) in
-      let n = withMeasured (withRing m (noteResult (m .ring) now (m .cycle .stat) disc codes)) (t .measured) in
-      let k = take-keeps-phase w (m .ranges) codes (measuredIn m) (m .cycle .stat) in
-      let P : Outcome → Type 0 = λ o. PhaseKept (o .measuring .«phase_cal») (m .«phase_cal») in
-      either P disc _ _ (same (m .«phase_cal»))
-      (either P (t .accepted) _ _
-      (either P (eqb (n .cycle .stat) r34Xy) _ _ k (either P (bAutorange w mode now n .mark .set) _ _ k k)) (same (m .«phase_cal»)))
-
-  alt-phase : (m : Measuring) → altFrame w mode codes now m .measuring .«phase_cal» ≡ m .«phase_cal»
-  unfolding altFrame altNext altPhaseDone switched ends goesOn rangedTo withMeasured measuredIn
-  alt-phase m =
-      let disc = ltb 0 (m .cycle .skip) in
-      let t = takeAlt w (m .ranges) (m .cycle .phase) codes (measuredIn m) in
-      let n = withMeasured (withRing m (noteResult (m .ring) now (1 + m .cycle .phase % 2) disc codes)) (t .measured) in
-      let c = countUp (n .cycle .taken) in
-      let k = alt-keeps-phase w (m .ranges) codes (measuredIn m) (m .cycle .phase) in
-      let P : Outcome → Type 0 = λ o. o .measuring .«phase_cal» ≡ m .«phase_cal» in
-      either P disc _ _ refl
-      (either P (t .accepted) _ _
-      (either P (ltb c altN) _ _ k (either P (altAutorange w mode now (withCycle n (withTaken (n .cycle) c)) .mark .set) _ _ k k)) refl)
-
-  dc-v-phase : (m : Measuring) → dcVPart w mode codes now m .measuring .«phase_cal» ≡ m .«phase_cal»
-  unfolding dcVPart dcVResult ends rangedTo withMeasured measuredIn
-  dc-v-phase m =
-      let disc = ltb 0 (m .cycle .«skip_y») in
-      let r = withRing m (noteResult (m .ring) now 3 disc codes) in
-      let n = withMeasured r (dcVTaken w (r .ranges .vr) codes (measuredIn r)) in
-      let k = dc-keeps-phase w (m .ranges) codes (measuredIn r) .0 in
-      let P : Outcome → Type 0 = λ o. o .measuring .«phase_cal» ≡ m .«phase_cal» in
-      either P disc _ _ refl (either P (autorangeV (w .description) mode (n .parts) (rangingIn n) now .mark .set) _ _ k k)
-
-  dc-i-phase : (flags : ℕ) (m : Measuring) → dcIPart w mode flags codes now m .measuring .«phase_cal» ≡ m .«phase_cal»
-  unfolding dcIPart dcIResult ends goesOn rangedTo withMeasured measuredIn
-  dc-i-phase flags m =
-      let n = withMeasured (withRing m (noteCurrent (m .ring) (codes .ad1))) (dcITaken w (m .ranges .ik) codes (measuredIn m)) in
-      let k = dc-keeps-phase w (m .ranges) codes (measuredIn m) .1 in
-      let P : Outcome → Type 0 = λ o. o .measuring .«phase_cal» ≡ m .«phase_cal» in
-      either P (holdsAd1 flags) _ _
-      (either P (ltb 0 (m .cycle .skip)) _ _ refl (either P (autorangeI (w .description) mode (n .parts) (rangingIn n) now .mark .set) _ _ k k)) refl
-
-  dc-phase : (flags : ℕ) (m : Measuring) → dcFrame w mode flags codes now m .measuring .«phase_cal» ≡ m .«phase_cal»
-  unfolding dcFrame
-  dc-phase flags m =
-      let v = dcVPart w mode codes now m in
-      let P : Outcome → Type 0 = λ o. o .measuring .«phase_cal» ≡ m .«phase_cal» in
-      either P (holdsRmsLpf flags) _ _ (either P (v .mark .set) _ _ (dc-v-phase m) (dc-i-phase flags (v .measuring) ∙ dc-v-phase m)) (dc-i-phase flags m)
-
-  kept : (a b : PhaseCal) → a ≡ b → PhaseKept a b
-  kept a b e = (ap (λ (c : PhaseCal). c .sph) e, ap (λ (c : PhaseCal). c .cal) e, ap (λ (c : PhaseCal). c .«cal_s0») e, ap (λ (c : PhaseCal). c .«cal_pa») e, ap (λ (c : PhaseCal). c .«cal_res») e)
-
-  pub phase-stays : (flags : ℕ) (m : Measuring) → PhaseKept (frame w mode flags codes now m .measuring .«phase_cal») (m .«phase_cal»)
-  unfolding frame ends
-  phase-stays flags m =
-      let P : Outcome → Type 0 = λ o. PhaseKept (o .measuring .«phase_cal») (m .«phase_cal») in
-      either P (mode .dc) _ _ (kept (dcFrame w mode flags codes now m .measuring .«phase_cal») (m .«phase_cal») (dc-phase flags m))
-      (either P (holdsRmsLpf flags) _ _
-      (either P (mode .alt) _ _ (kept (altFrame w mode codes now m .measuring .«phase_cal») (m .«phase_cal») (alt-phase m)) (b-phase m)) (same (m .«phase_cal»)))
+  -- ---- of the phase calibration a frame changes the sum and its count alone
+  pub phase-stays : PhaseKept (frame w mode flags codes now m .measuring .«phase_cal») (m .«phase_cal»)
+  phase-stays =
+      frame-keeps (λ r barred c. PhaseKept c (m .«phase_cal»))
+      (λ d mo p g t c h. h)
+      (λ d mo p g t c h. h)
+      (λ r barred a b k h. (k .0 ∙ h .0, k .1 ∙ h .1, k .2 ∙ h .2, k .3 ∙ h .3, k .4 ∙ h .4))
+      w mode codes now flags m (refl, refl, refl, refl, refl)
 
 -- ---- a whole meter: what is put in is what is read, and nothing else moves
 pub read-back : (m : Pw) (x : Measuring) → measuringIn (withMeasuring m x) ≡ x
@@ -306,12 +246,18 @@ pub instrument-stays : (m : Pw) (x : Measuring) → instrumentIn (withMeasuring 
 unfolding instrumentIn withMeasuring
 instrument-stays m x = refl
 
--- ---- the ring: an entry is read back at its place, and every other place stays as it was
-module _ (r : Ring) (raw : Raw) where
-  pub entry-read : length (r .rms) ≡ 16 → getD (noted r raw .rms) (r .«ring_k» % 16) (pos 0) ≡ raw .rms
-  unfolding noted
-  entry-read whole = getD-set-same (r .rms) (r .«ring_k» % 16) (raw .rms) (pos 0) (omega (arith, whole))
+-- ---- the ring: an entry is read back at its place, from all five arrays, and every other place stays as it was
+abbrev pub entry : Ring → ℕ → Raw
+entry r j = record { stat = getD (r .stat) j 0; disc = getD (r .disc) j false; rms = getD (r .rms) j (pos 0); lpf = getD (r .lpf) j (pos 0); dt = getD (r .dt) j 0 }
 
-  pub entries-stay : (j : ℕ) → (j ≡ r .«ring_k» % 16 → ⊥) → getD (noted r raw .rms) j (pos 0) ≡ getD (r .rms) j (pos 0)
+module _ (r : Ring) (raw : Raw) where
+  at-place : {A : Type 0} (l : List A) (a d : A) → length l ≡ 16 → getD (set l (r .«ring_k» % 16) a) (r .«ring_k» % 16) d ≡ a
+  at-place l a d whole = getD-set-same l (r .«ring_k» % 16) a d (omega (arith, whole))
+
+  pub entry-read : length (r .stat) ≡ 16 → length (r .disc) ≡ 16 → length (r .rms) ≡ 16 → length (r .lpf) ≡ 16 → length (r .dt) ≡ 16 → entry (noted r raw) (r .«ring_k» % 16) ≡ raw
   unfolding noted
-  entries-stay j other = getD-set-other (r .rms) (r .«ring_k» % 16) j (raw .rms) (pos 0) other
+  entry-read stat disc rms lpf dt = simp (at-place, stat, disc, rms, lpf, dt)
+
+  pub entries-stay : (j : ℕ) → (j ≡ r .«ring_k» % 16 → ⊥) → entry (noted r raw) j ≡ entry r j
+  unfolding noted
+  entries-stay j other = simp (getD-set-other, other)

@@ -1,5 +1,5 @@
 -- A frame in DC coupling: `pw_poll_dc` of the source. Document 01: "The DC path takes AD1 from the same frame, where the source reads the chip again."
-use mathlib.Core.Bool.{cond}
+use mathlib.Core.Bool.{true, false, cond}
 use Prim.Native.Nat.{ℕ, _-_}
 use lib.Dec.{ltb}
 use Rattle.codes.specs.declared.Codes.{Codes}
@@ -7,11 +7,10 @@ use Rattle.codes.specs.Flags.{holdsAd1, holdsRmsLpf}
 use Rattle.state.specs.declared.Mode.{Mode}
 use Rattle.takes.specs.declared.scales.Instrument.{Instrument}
 use Rattle.takes.specs.Take.{dcVTaken, dcITaken}
-use Rattle.ranging.specs.Autorange.{autorangeV, autorangeI}
 use Rattle.paths.specs.declared.measuring.Measuring.{Measuring}
 use Rattle.paths.specs.declared.measuring.Outcome.{Outcome}
 use Rattle.paths.specs.Ring.{noteResult, noteCurrent}
-use Rattle.paths.specs.Measuring.{ends, goesOn, withSkip, withSkipY, withCycle, withRing, measuredIn, withMeasured, rangingIn, unlessRanged}
+use Rattle.paths.specs.Measuring.{ends, goesOn, withSkip, withSkipY, withCycle, withRing, measuredIn, withMeasured, autorange, unlessRanged}
 
 -- the voltage is taken
 abbrev pub dcVAfter : Instrument → Codes → Measuring → Measuring
@@ -20,7 +19,7 @@ dcVAfter w codes m = withMeasured m (dcVTaken w (m .ranges .vr) codes (measuredI
 unfoldable pub dcVResult : Instrument → Mode → Codes → ℕ → Measuring → Outcome
 dcVResult w mode codes now m =
     let after = dcVAfter w codes m in
-    unlessRanged after (ends after) (autorangeV (w .description) mode (after .parts) (rangingIn after) now)
+    unlessRanged after (ends after) (autorange w mode true now after)
 
 -- the ring's entry has `stat: 3`, and `disc: skip_y > 0`
 unfoldable pub dcVPart : Instrument → Mode → Codes → ℕ → Measuring → Outcome
@@ -36,7 +35,7 @@ dcIAfter w codes m = withMeasured (withRing m (noteCurrent (m .ring) (codes .ad1
 unfoldable pub dcIResult : Instrument → Mode → Codes → ℕ → Measuring → Outcome
 dcIResult w mode codes now m =
     let after = dcIAfter w codes m in
-    unlessRanged after (goesOn after) (autorangeI (w .description) mode (after .parts) (rangingIn after) now)
+    unlessRanged after (goesOn after) (autorange w mode false now after)
 
 -- where AD1 is ready; a dropped result leaves no entry in the ring
 unfoldable pub dcIPart : Instrument → Mode → ℕ → Codes → ℕ → Measuring → Outcome

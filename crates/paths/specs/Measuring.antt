@@ -1,13 +1,16 @@
 -- What a frame outside a job may change, and what it answers: rule 1 of docs/ARCHITECTURE.md. It also reads the description, the words, the corrections and the mode; nothing else of the meter is handed to it.
-use mathlib.Core.Bool.{true, false, cond}
+use mathlib.Core.Bool.{Bool, true, false, cond}
 use Prim.Native.Nat.{ℕ}
 use Rattle.state.specs.declared.Comparator.{Comparator}
 use Rattle.state.specs.declared.Cycle.{Cycle}
+use Rattle.state.specs.declared.Mode.{Mode}
 use Rattle.state.specs.declared.Ring.{Ring}
 use Rattle.state.specs.Fresh.{noTime}
+use Rattle.takes.specs.declared.scales.Instrument.{Instrument}
 use Rattle.takes.specs.declared.take.Measured.{Measured}
 use Rattle.ranging.specs.declared.autorange.Ranging.{Ranging}
 use Rattle.ranging.specs.declared.autorange.Ranged.{Ranged}
+use Rattle.ranging.specs.Autorange.{autorangeV, autorangeI}
 use Rattle.paths.specs.declared.measuring.Measuring.{Measuring}
 use Rattle.paths.specs.declared.measuring.Outcome.{Outcome}
 
@@ -66,6 +69,12 @@ withMeasured m t =
 
 unfoldable pub rangingIn : Measuring → Ranging
 rangingIn m = record { ranges = m .ranges; barred = m .barred; cycle = m .cycle; comparator = m .comparator }
+
+-- `pw_autorange(clk, v)`
+unfoldable pub autorange : Instrument → Mode → Bool → ℕ → Measuring → Ranged
+autorange w mode v now m =
+    cond v (autorangeV (w .description) mode (m .parts) (rangingIn m) now)
+    (autorangeI (w .description) mode (m .parts) (rangingIn m) now)
 
 -- a range was applied: its mark, and no values
 unfoldable pub rangedTo : Measuring → Ranged → Outcome

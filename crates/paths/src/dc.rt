@@ -4,19 +4,17 @@ ghost use mathlib.Core.Path.{_≡_};
 ghost use Rattle.paths.specs.Dc.{dcVResult, dcVPart, dcIResult, dcIPart, dcFrame};
 use crate::measuring::Measuring;
 use crate::measuring::Outcome;
+use crate::measuring::autorange;
 use crate::measuring::ends;
 use crate::measuring::goes_on;
 use crate::measuring::measured_in;
 use crate::measuring::ranged_to;
-use crate::measuring::ranging_in;
 use crate::measuring::with_measured;
 use crate::ring::note_current;
 use crate::ring::note_result;
 use codes::Codes;
 use codes::holds_ad1;
 use codes::holds_rms_lpf;
-use ranging::autorange::autorange_i;
-use ranging::autorange::autorange_v;
 use state::Mode;
 use takes::scales::Instrument;
 use takes::take::dc_i_taken;
@@ -28,7 +26,7 @@ fn dc_v_result(with: Instrument, mode: Mode, codes: Codes, now: u64, before: Mea
 {
     let measured = dc_v_taken(with, before.ranges.vr, codes, measured_in(before));
     let after = with_measured(before, measured);
-    let ranged = autorange_v(with.description, mode, after.parts, ranging_in(after), now);
+    let ranged = autorange(with, mode, true, now, after);
     if ranged.mark.set {
         return ranged_to(after, ranged);
     }
@@ -60,7 +58,7 @@ fn dc_i_result(with: Instrument, mode: Mode, codes: Codes, now: u64, before: Mea
     noted.ring = ring;
     let measured = dc_i_taken(with, before.ranges.ik, codes, measured_in(before));
     let after = with_measured(noted, measured);
-    let ranged = autorange_i(with.description, mode, after.parts, ranging_in(after), now);
+    let ranged = autorange(with, mode, false, now, after);
     if ranged.mark.set {
         return ranged_to(after, ranged);
     }

@@ -1,18 +1,59 @@
 // A frame outside a job, by its path.
 ghost use mathlib.Core.Path.{_≡_};
-ghost use Rattle.paths.specs.Frame.{frame};
-use crate::alternating::alt_frame;
+ghost use Rattle.paths.specs.Frame.{methodFrame, frame};
+use crate::alternating::alt_next;
 use crate::dc::dc_frame;
 use crate::measuring::Measuring;
 use crate::measuring::Outcome;
 use crate::measuring::ends;
-use crate::method_b::b_frame;
+use crate::measuring::measured_in;
+use crate::measuring::with_measured;
+use crate::method_b::b_next;
+use crate::ring::note_result;
 use codes::Codes;
 use codes::holds_rms_lpf;
 use state::Mode;
 use takes::scales::Instrument;
+use takes::take::take;
+use takes::take::take_alt;
 
-// DC coupling comes before the method. The other paths need RMS and LPF, or nothing happens.
+// Method B or the alternating method: the ring's entry; then a dropped result, one turned down, or one
+// taken.
+fn method_frame(with: Instrument, mode: Mode, codes: Codes, now: u64, before: Measuring) -> Outcome
+    ensures { λ r. ⌜ r ≡ methodFrame with mode codes now before ⌝ }
+{
+    let cycle = before.cycle;
+    let skip = cycle.skip;
+    let stat = if mode.alt {
+        1 + cycle.phase % 2
+    } else {
+        cycle.stat
+    };
+    let ring = note_result(before.ring, now, stat, skip > 0, codes);
+    let mut noted = before;
+    noted.ring = ring;
+    if skip > 0 {
+        let left = skip - 1;
+        noted.cycle.skip = left;
+        return ends(noted);
+    }
+    let measured = measured_in(before);
+    let taken = if mode.alt {
+        take_alt(with, before.ranges, cycle.phase, codes, measured)
+    } else {
+        take(with, before.ranges, cycle.stat, codes, measured)
+    };
+    if taken.accepted {
+        let after = with_measured(noted, taken.measured);
+        if mode.alt {
+            return alt_next(with, mode, now, after);
+        }
+        return b_next(with, mode, now, after);
+    }
+    ends(noted)
+}
+
+// DC coupling comes before the method. Both methods need RMS and LPF, or nothing happens.
 pub fn frame(
     with: Instrument,
     mode: Mode,
@@ -27,10 +68,7 @@ pub fn frame(
         return dc_frame(with, mode, flags, codes, now, before);
     }
     if holds_rms_lpf(flags) {
-        if mode.alt {
-            return alt_frame(with, mode, codes, now, before);
-        }
-        return b_frame(with, mode, codes, now, before);
+        return method_frame(with, mode, codes, now, before);
     }
     ends(before)
 }

@@ -1,15 +1,19 @@
 // What a frame outside a job may change, and what it answers.
 ghost use mathlib.Core.Path.{_≡_};
-ghost use Rattle.paths.specs.Measuring.{ends, goesOn, measuredIn, withMeasured, rangingIn, rangedTo};
+ghost use Rattle.paths.specs.Measuring.{ends, goesOn, measuredIn, withMeasured, rangingIn, autorange, rangedTo};
 use ranging::autorange::Ranged;
 use ranging::autorange::Ranging;
+use ranging::autorange::autorange_i;
+use ranging::autorange::autorange_v;
 use state::Comparator;
 use state::Cycle;
+use state::Mode;
 use state::Parts;
 use state::PhaseCal;
 use state::Ranges;
 use state::Ring;
 use state::Stamp;
+use takes::scales::Instrument;
 use takes::take::Measured;
 
 // The meter's fields that a frame outside a job may change.
@@ -82,7 +86,7 @@ pub(crate) fn with_measured(before: Measuring, measured: Measured) -> Measuring
 }
 
 // What an autorange may change.
-pub(crate) fn ranging_in(measuring: Measuring) -> Ranging
+fn ranging_in(measuring: Measuring) -> Ranging
     ensures { λ r. ⌜ r ≡ rangingIn measuring ⌝ }
 {
     let ranges = measuring.ranges;
@@ -94,6 +98,23 @@ pub(crate) fn ranging_in(measuring: Measuring) -> Ranging
         cycle,
         comparator,
     }
+}
+
+// The autorange of the voltage, or of the current (the source's `pw_autorange`).
+pub(crate) fn autorange(
+    with: Instrument,
+    mode: Mode,
+    v: bool,
+    now: u64,
+    before: Measuring,
+) -> Ranged
+    ensures { λ r. ⌜ r ≡ autorange with mode v now before ⌝ }
+{
+    let ranging = ranging_in(before);
+    if v {
+        return autorange_v(with.description, mode, before.parts, ranging, now);
+    }
+    autorange_i(with.description, mode, before.parts, ranging, now)
 }
 
 // A range was applied: its mark, and no values.

@@ -6,9 +6,11 @@ ghost use Rattle.tables.specs.Ranges.{r36Of};
 ghost use Rattle.tables.specs.Row.{rowKind, rowNumber};
 ghost use Rattle.figures.specs.Exact.{ExactAfter};
 ghost use Rattle.figures.specs.Acc.{freshAcc, addTo, addedNumber, addedAcc, wattHours};
-ghost use Rattle.pw.specs.Host.{frameCodes, hostWindow};
+ghost use Rattle.formats.specs.Formats.{energyFormat, pFormat};
+ghost use Rattle.pw.specs.Host.{frameCodes, hostWindow, hostFormat};
 use codes::Decoded;
 use figures::acc::Acc;
+use formats::format::Format;
 use refusals::Refusal;
 use tables::window::Window;
 
@@ -111,4 +113,40 @@ pub extern "C" fn pw_acc_wh(acc: Acc) -> f32
     ensures { λ r. ⌜ r ≡ wattHours acc ⌝ }
 {
     Acc::wh(acc)
+}
+
+// `struct pw_format`: the unit by its number.
+#[repr(C)]
+pub struct HostFormat {
+    pub number: f32,
+    pub decimals: u8,
+    pub unit: u8,
+}
+
+fn host_format(f: Format) -> HostFormat
+    ensures { λ r. ⌜ r ≡ hostFormat f ⌝ }
+{
+    let unit = f.unit;
+    let number = formats::units::unit_number(unit);
+    HostFormat {
+        number: f.number,
+        decimals: f.decimals,
+        unit: number,
+    }
+}
+
+// `energy_format`: the apparent energy where `va`, else the active one.
+#[no_mangle]
+pub extern "C" fn pw_energy_format(wh: f32, va: bool) -> HostFormat
+    ensures { λ r. ⌜ r ≡ hostFormat (energyFormat wh va) ⌝ }
+{
+    host_format(formats::format::energy_format(wh, va))
+}
+
+// `p_format`: a power of si W or VA, in a pair of ranges of fs W or VA full scale.
+#[no_mangle]
+pub extern "C" fn pw_p_format(fs: f32, si: f32, watts: bool) -> HostFormat
+    ensures { λ r. ⌜ r ≡ hostFormat (pFormat fs si watts) ⌝ }
+{
+    host_format(formats::format::p_format(fs, si, watts))
 }

@@ -18,7 +18,8 @@ use Rattle.takes.specs.declared.take.Measured.{Measured}
 use Rattle.takes.specs.declared.take.Taken.{Taken}
 use Rattle.takes.specs.Scales.{zeroX, zeroD, zeroY, rmsRoot}
 use Rattle.takes.specs.Parts.{xyParts, iParts, vParts, altVParts, dcVParts, dcIParts}
-use Rattle.takes.specs.Take.{turnedDown, accepted, xyTooLarge, rootTooLarge, oneMore, phaseCounted, takeXy, takeXx, takeYy, take, takeAltV, takeAltI, takeAlt, dcVTaken, dcITaken, PhaseKept}
+use Rattle.takes.specs.Take.{turnedDown, accepted, xyTooLarge, rootTooLarge, phaseCounted, takeXy, takeXx, takeYy, take, takeAltV, takeAltI, takeAlt, dcVTaken, dcITaken, PhaseKept}
+use Rattle.numbers.proofs.Cases.{either}
 
 -- ---- document 01: "XY is turned down when |RMS| > 2^36; XX and YY when the computed root exceeds 262,144"
 
@@ -49,20 +50,15 @@ abbrev Settled : Measured → Taken → Type 0
 Settled m t = t .accepted ≡ false → t .measured ≡ m
 
 settled : (t : Bool) (m x : Measured) → Settled m (cond t (turnedDown m) (accepted x))
-settled true m x e = refl
-settled false m x e = absurd (true≢false e)
-
-one-of : (t : Bool) (m : Measured) (x y : Taken) → Settled m x → Settled m y → Settled m (cond t x y)
-one-of true m x y f g = f
-one-of false m x y f g = g
+settled t m x = either (Settled m) t (λ e. refl) (λ e. absurd (true≢false e))
 
 module _ (w : Instrument) (r : Ranges) (codes : Codes) (m : Measured) where
   pub down-leaves : (stat : ℕ) → take w r stat codes m .accepted ≡ false → take w r stat codes m .measured ≡ m
   unfolding take takeXy takeXx takeYy
   down-leaves stat =
-      one-of (eqb stat r34Xy) m _ _ (settled (xyTooLarge (codes .rms)) m _)
-      (one-of (eqb stat r34Xx) m _ _ (settled (rootTooLarge (rmsRoot (codes .rms))) m _)
-      (one-of (eqb stat r34Yy) m _ _ (settled (rootTooLarge (rmsRoot (codes .rms))) m _) (λ e. refl)))
+      either (Settled m) (eqb stat r34Xy) (settled (xyTooLarge (codes .rms)) m _)
+      (either (Settled m) (eqb stat r34Xx) (settled (rootTooLarge (rmsRoot (codes .rms))) m _)
+      (either (Settled m) (eqb stat r34Yy) (settled (rootTooLarge (rmsRoot (codes .rms))) m _) (λ e. refl)))
 
   pub alt-down-leaves : (phase : ℕ) → takeAlt w r phase codes m .accepted ≡ false → takeAlt w r phase codes m .measured ≡ m
   unfolding takeAlt
@@ -101,39 +97,30 @@ module _ (seen : ℕ) (x y : Float) (p : Parts) where
 
 -- ---- what each take leaves of the phase calibration: only the sum and its count ever change
 
-pub phase-leaves : (c : PhaseCal) (p : Float) (seen : ℕ) (parts : Parts) → PhaseKept (phaseCounted c p seen parts) c
-unfolding phaseCounted
-phase-leaves c p seen parts = go (not (eqb (c .cal) 0) && bothSeen seen && lt zeroF (parts .«v_ac» *f parts .«i_ac»))
-  where
-    go : (t : Bool) → PhaseKept (cond t (oneMore c p (parts .«v_ac» *f parts .«i_ac»)) c) c
-    go true = (refl, refl, refl, refl, refl)
-    go false = (refl, refl, refl, refl, refl)
-
 same : (c : PhaseCal) → PhaseKept c c
 same c = (refl, refl, refl, refl, refl)
 
--- of two answers, each of which keeps it
-either : (t : Bool) (c : PhaseCal) (x y : Taken) → PhaseKept (x .measured .«phase_cal») c → PhaseKept (y .measured .«phase_cal») c → PhaseKept (cond t x y .measured .«phase_cal») c
-either true c x y f g = f
-either false c x y f g = g
+pub phase-leaves : (c : PhaseCal) (p : Float) (seen : ℕ) (parts : Parts) → PhaseKept (phaseCounted c p seen parts) c
+unfolding phaseCounted
+phase-leaves c p seen parts =
+    let counts = not (eqb (c .cal) 0) && bothSeen seen && lt zeroF (parts .«v_ac» *f parts .«i_ac») in
+    either (λ (x : PhaseCal). PhaseKept x c) counts (same c) (same c)
 
 module _ (w : Instrument) (r : Ranges) (codes : Codes) (m : Measured) where
   pub take-keeps-phase : (stat : ℕ) → PhaseKept (take w r stat codes m .measured .«phase_cal») (m .«phase_cal»)
   unfolding take takeXy takeXx takeYy
   take-keeps-phase stat =
       let c = m .«phase_cal» in
-      either (eqb stat r34Xy) c _ _ (either (xyTooLarge (codes .rms)) c _ _ (same c) (phase-leaves c _ _ _))
-      (either (eqb stat r34Xx) c _ _ (either (rootTooLarge (rmsRoot (codes .rms))) c _ _ (same c) (same c))
-      (either (eqb stat r34Yy) c _ _ (either (rootTooLarge (rmsRoot (codes .rms))) c _ _ (same c) (same c)) (same c)))
+      let P : Taken → Type 0 = λ t. PhaseKept (t .measured .«phase_cal») c in
+      let large = rootTooLarge (rmsRoot (codes .rms)) in
+      either P (eqb stat r34Xy) (either P (xyTooLarge (codes .rms)) (same c) (phase-leaves c _ _ _))
+      (either P (eqb stat r34Xx) (either P large (same c) (same c)) (either P (eqb stat r34Yy) (either P large (same c) (same c)) (same c)))
 
   pub alt-keeps-phase : (phase : ℕ) → takeAlt w r phase codes m .measured .«phase_cal» ≡ m .«phase_cal»
   unfolding takeAlt takeAltV takeAltI
-  alt-keeps-phase phase = go (rootTooLarge (rmsRoot (codes .rms))) (eqb (phase % 2) 0)
-    where
-      go : (down even : Bool) → cond down (turnedDown m) (accepted (cond even (takeAltV w (r .vr) (rmsRoot (codes .rms)) m) (takeAltI w (r .ik) (rmsRoot (codes .rms)) (codes .lpf) m))) .measured .«phase_cal» ≡ m .«phase_cal»
-      go true even = refl
-      go false true = refl
-      go false false = refl
+  alt-keeps-phase phase =
+      either (λ (t : Taken). t .measured .«phase_cal» ≡ m .«phase_cal») (rootTooLarge (rmsRoot (codes .rms))) refl
+      (either (λ (x : Measured). x .«phase_cal» ≡ m .«phase_cal») (eqb (phase % 2) 0) refl refl)
 
   pub dc-keeps-phase : (dcVTaken w (r .vr) codes m .«phase_cal» ≡ m .«phase_cal») × (dcITaken w (r .ik) codes m .«phase_cal» ≡ m .«phase_cal»)
   unfolding dcVTaken dcITaken

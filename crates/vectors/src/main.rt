@@ -6,6 +6,7 @@ use figures::acc::Acc;
 use figures::acc::Added;
 use figures::tally::Accounted;
 use figures::tally::Tally;
+use formats::format::Format;
 use refusals::Refusal;
 use state::Pw;
 use tables::calibration::Calibration;
@@ -363,6 +364,81 @@ fn limit_rows(s: Score) -> Score {
     row(s, 98, !takes_rms(0x8C, 68719489024))
 }
 
+// Whether a format has this number by its bits, these decimals, and the unit of this number.
+fn is_format(f: Format, bits: u32, decimals: u8, unit: u8) -> bool {
+    let u = f.unit;
+    let n = formats::units::unit_number(u);
+    if f.decimals != decimals {
+        return false;
+    }
+    if n != unit {
+        return false;
+    }
+    has_bits(f.number, bits)
+}
+
+// Rows 99 and 100: document 01, `energy_format` 0.5 Wh and 0.5 VAh. Row 101: 100,000 VAh, where 1e-3 is
+// not exact. Row 102: 1000 Wh is 1 kWh. In units 11 is mWh, 12 kWh, 13 VAh and 14 kVAh.
+fn format_rows(s: Score) -> Score {
+    let mut s = s;
+    let half = formats::format::energy_format(0.5, false);
+    s = row(s, 99, is_format(half, 0x43FA_0000, 2, 11));
+    let apparent = formats::format::energy_format(0.5, true);
+    s = row(s, 100, is_format(apparent, 0x3F00_0000, 4, 13));
+    let large = formats::format::energy_format(100_000.0, true);
+    s = row(s, 101, is_format(large, 0x42C8_0001, 2, 14));
+    let kilo = formats::format::energy_format(1000.0, false);
+    row(s, 102, is_format(kilo, 0x3F80_0000, 4, 12))
+}
+
+// Whether the power has these decimals and the unit of this number in a pair of ranges.
+fn shows_power(vr: u8, ik: u8, decimals: u8, unit: u8) -> bool {
+    let fs = tables::lookups::v_lim(vr) * tables::lookups::i_lim(ik);
+    let f = formats::format::p_format(fs, 1.0, true);
+    let u = f.unit;
+    let n = formats::units::unit_number(u);
+    if f.decimals != decimals {
+        return false;
+    }
+    n == unit
+}
+
+// Rows 103 to 114: the published `p_format` of 6 V and 60 V with each current range. In units 4 is W and 5
+// is mW.
+fn low_power_rows(s: Score) -> Score {
+    let mut s = s;
+    s = row(s, 103, shows_power(0, 0, 4, 5));
+    s = row(s, 104, shows_power(0, 1, 3, 5));
+    s = row(s, 105, shows_power(0, 2, 2, 5));
+    s = row(s, 106, shows_power(0, 3, 4, 4));
+    s = row(s, 107, shows_power(0, 4, 3, 4));
+    s = row(s, 108, shows_power(0, 5, 3, 4));
+    s = row(s, 109, shows_power(1, 0, 3, 5));
+    s = row(s, 110, shows_power(1, 1, 2, 5));
+    s = row(s, 111, shows_power(1, 2, 4, 4));
+    s = row(s, 112, shows_power(1, 3, 3, 4));
+    s = row(s, 113, shows_power(1, 4, 2, 4));
+    row(s, 114, shows_power(1, 5, 2, 4))
+}
+
+// Rows 115 to 126: the published `p_format` of 600 V and 1000 V with each current range. In units 4 is W, 5 mW
+// and 6 kW.
+fn high_power_rows(s: Score) -> Score {
+    let mut s = s;
+    s = row(s, 115, shows_power(2, 0, 2, 5));
+    s = row(s, 116, shows_power(2, 1, 4, 4));
+    s = row(s, 117, shows_power(2, 2, 3, 4));
+    s = row(s, 118, shows_power(2, 3, 2, 4));
+    s = row(s, 119, shows_power(2, 4, 1, 4));
+    s = row(s, 120, shows_power(2, 5, 1, 4));
+    s = row(s, 121, shows_power(3, 0, 2, 5));
+    s = row(s, 122, shows_power(3, 1, 4, 4));
+    s = row(s, 123, shows_power(3, 2, 3, 4));
+    s = row(s, 124, shows_power(3, 3, 2, 4));
+    s = row(s, 125, shows_power(3, 4, 1, 4));
+    row(s, 126, shows_power(3, 5, 3, 6))
+}
+
 fn main() {
     let s = rms_rows(code_rows(Score {
         agree: 0,
@@ -371,6 +447,7 @@ fn main() {
     let s = max_rows(root_rows(length_rows(s)));
     let s = acc_rows(description_rows(window_rows(s)));
     let s = limit_rows(totals_rows(count_rows(s)));
+    let s = high_power_rows(low_power_rows(format_rows(s)));
     io::print_decimal(1, s.agree);
     io::write_all(1, b" rows agree, ");
     io::print_decimal(1, s.differ);

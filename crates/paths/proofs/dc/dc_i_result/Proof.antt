@@ -18,27 +18,24 @@ dc-i-taken-requires c κs = search needs
 with-measured-requires : tie.Need-with-measured-requires
 with-measured-requires c κs = search needs
 
-ranging-in-requires : tie.Need-ranging-in-requires
-ranging-in-requires c κs = search needs
-
-autorange-i-requires : tie.Need-autorange-i-requires
-autorange-i-requires c κs = search needs
+autorange-requires : tie.Need-autorange-requires
+autorange-requires c κs = search needs
 
 ranged-to-requires : tie.Need-ranged-to-requires
 ranged-to-requires c κs = search needs
 
 returns : tie.Need-returns
 unfolding dcIResult
-returns c = let if1 = simp (c .before .before .autorange-i .ensures, c .before .before .before .ranging-in .ensures, c .before .before .before .before .with-measured .ensures, c .before .before .before .before .before .dc-i-taken .ensures, c .before .before .before .before .before .before .measured-in .ensures, c .before .before .before .before .before .before .before .note-current .ensures, toZ-ofZ w32 (c .before .before .before .before .before .before .before .before .before .args .codes .ad1) (record { sfits = c .before .before .before .before .before .before .before .before .struct-told .given .0 .1 })) at (c .before .if1 .taken) in
-    simp (c .ranged-to .ensures, c .before .before .autorange-i .ensures, c .before .before .before .ranging-in .ensures, c .before .before .before .before .with-measured .ensures, c .before .before .before .before .before .dc-i-taken .ensures, c .before .before .before .before .before .before .measured-in .ensures, c .before .before .before .before .before .before .before .note-current .ensures, if1, toZ-ofZ w32 (c .before .before .before .before .before .before .before .before .before .args .codes .ad1) (record { sfits = c .before .before .before .before .before .before .before .before .struct-told .given .0 .1 }))
+returns c = let if1 = simp (c .before .before .autorange .ensures, c .before .before .before .with-measured .ensures, c .before .before .before .before .dc-i-taken .ensures, c .before .before .before .before .before .measured-in .ensures, c .before .before .before .before .before .before .note-current .ensures, toZ-ofZ w32 (c .before .before .before .before .before .before .before .before .args .codes .ad1) (record { sfits = c .before .before .before .before .before .before .before .struct-told .given .0 .1 })) at (c .before .if1 .taken) in
+    simp (c .ranged-to .ensures, c .before .before .autorange .ensures, c .before .before .before .with-measured .ensures, c .before .before .before .before .dc-i-taken .ensures, c .before .before .before .before .before .measured-in .ensures, c .before .before .before .before .before .before .note-current .ensures, if1, toZ-ofZ w32 (c .before .before .before .before .before .before .before .before .args .codes .ad1) (record { sfits = c .before .before .before .before .before .before .before .struct-told .given .0 .1 }))
 
 goes-on-requires : tie.Need-goes-on-requires
 goes-on-requires c κs = search needs
 
 returns-2 : tie.Need-returns-2
 unfolding dcIResult
-returns-2 c = let if1 = simp (c .before .before .autorange-i .ensures, c .before .before .before .ranging-in .ensures, c .before .before .before .before .with-measured .ensures, c .before .before .before .before .before .dc-i-taken .ensures, c .before .before .before .before .before .before .measured-in .ensures, c .before .before .before .before .before .before .before .note-current .ensures, toZ-ofZ w32 (c .before .before .before .before .before .before .before .before .before .args .codes .ad1) (record { sfits = c .before .before .before .before .before .before .before .before .struct-told .given .0 .1 })) at (c .before .if1 .left) in
-    simp (c .goes-on .ensures, c .before .before .autorange-i .ensures, c .before .before .before .ranging-in .ensures, c .before .before .before .before .with-measured .ensures, c .before .before .before .before .before .dc-i-taken .ensures, c .before .before .before .before .before .before .measured-in .ensures, c .before .before .before .before .before .before .before .note-current .ensures, if1, toZ-ofZ w32 (c .before .before .before .before .before .before .before .before .before .args .codes .ad1) (record { sfits = c .before .before .before .before .before .before .before .before .struct-told .given .0 .1 }))
+returns-2 c = let if1 = simp (c .before .before .autorange .ensures, c .before .before .before .with-measured .ensures, c .before .before .before .before .dc-i-taken .ensures, c .before .before .before .before .before .measured-in .ensures, c .before .before .before .before .before .before .note-current .ensures, toZ-ofZ w32 (c .before .before .before .before .before .before .before .before .args .codes .ad1) (record { sfits = c .before .before .before .before .before .before .before .struct-told .given .0 .1 })) at (c .before .if1 .left) in
+    simp (c .goes-on .ensures, c .before .before .autorange .ensures, c .before .before .before .with-measured .ensures, c .before .before .before .before .dc-i-taken .ensures, c .before .before .before .before .before .measured-in .ensures, c .before .before .before .before .before .before .note-current .ensures, if1, toZ-ofZ w32 (c .before .before .before .before .before .before .before .before .args .codes .ad1) (record { sfits = c .before .before .before .before .before .before .before .struct-told .given .0 .1 }))
 
 pub dc-i-result-spec : {M : Type 1} → statement M
 dc-i-result-spec =
@@ -48,8 +45,7 @@ dc-i-result-spec =
     measured-in-requires
     dc-i-taken-requires
     with-measured-requires
-    ranging-in-requires
-    autorange-i-requires
+    autorange-requires
     ranged-to-requires
     returns
     goes-on-requires

@@ -1,0 +1,3 @@
+pub mod Units
+pub mod Formats
+pub mod Readout

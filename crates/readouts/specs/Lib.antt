@@ -1,0 +1,3 @@
+pub mod Readings
+pub mod Bluetooth
+pub mod Partial

@@ -1,0 +1,7 @@
+pub mod PowerVals
+pub mod Methods
+pub mod Floors
+pub mod Load
+pub mod Marks
+pub mod Energy
+pub mod Vals
