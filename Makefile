@@ -20,8 +20,8 @@ LEAVES = host/leaves.h $(LIBRARIES)/libleaves.a
 PWSCRIPT = host/pwscript.c host/words.c host/words.h
 FRAMES = tests/frames.c tests/values.c tests/values.h tests/transcript.c tests/transcript.h tests/cases.h \
 	tests/shown.h tests/fields.h tests/bits.h host/words.c host/words.h include/pw.h
-VALUES = tests/test_values.c tests/value_rule.h tests/meters.h tests/shown.h tests/fields.h tests/floats.h tests/bits.h
-READOUTS = tests/test_readouts.c tests/formats.h tests/shown.h tests/fields.h tests/floats.h tests/bits.h include/pw.h
+VALUES = tests/test_values.c tests/checks.h tests/value_rule.h tests/meters.h tests/shown.h tests/fields.h tests/floats.h tests/bits.h
+READOUTS = tests/test_readouts.c tests/checks.h tests/formats.h tests/shown.h tests/fields.h tests/floats.h tests/bits.h include/pw.h
 COMPILE = @mkdir -p $(@D) && echo "$(CC) $@" && $(CC) $(CFLAGS)
 INPUTS = $(filter %.c %.a,$^)
 
@@ -75,10 +75,10 @@ build/test_figures: tests/test_figures.c tests/bits.h tests/energy.h tests/float
 build/sanitized/test_figures: tests/test_figures.c tests/bits.h tests/energy.h tests/floats.h $(PW) $(LEAVES)
 	$(COMPILE) $(SANITIZED) -o $@ $(INPUTS) -lm
 
-build/test_state: tests/test_state.c tests/meters.h tests/fields.h tests/bits.h $(LEAVES)
+build/test_state: tests/test_state.c tests/checks.h tests/meters.h tests/fields.h tests/bits.h $(LEAVES)
 	$(COMPILE) $(PLAIN) -o $@ $(INPUTS) -lm
 
-build/sanitized/test_state: tests/test_state.c tests/meters.h tests/fields.h tests/bits.h $(LEAVES)
+build/sanitized/test_state: tests/test_state.c tests/checks.h tests/meters.h tests/fields.h tests/bits.h $(LEAVES)
 	$(COMPILE) $(SANITIZED) -o $@ $(INPUTS) -lm
 
 build/test_values: $(VALUES) $(LEAVES)
@@ -102,10 +102,10 @@ build/sanitized/frames: $(FRAMES) $(LEAVES)
 build/frame_lines: tests/frame_lines.c tests/bits.h
 	$(COMPILE) $(PLAIN) -o $@ $(INPUTS) -lm
 
-build/figure_lines: tests/figure_lines.c tests/bits.h tests/floats.h
+build/figure_lines: tests/figure_lines.c tests/bits.h tests/floats.h tests/lines.h
 	$(COMPILE) $(PLAIN) -o $@ $(INPUTS) -lm
 
-build/value_lines: tests/value_lines.c tests/bits.h tests/floats.h
+build/value_lines: tests/value_lines.c tests/bits.h tests/floats.h tests/lines.h
 	$(COMPILE) $(PLAIN) -o $@ $(INPUTS) -lm
 
 build/bench: host/bench.c $(PW) $(LEAVES)

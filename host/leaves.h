@@ -442,8 +442,8 @@ struct leaf_vals {
 };
 struct leaf_vals leaf_pw_vals(struct leaf_pw pw);
 
-/* The source's pw_state: these values, or where nothing is measured zeros with the ranges, the
- * energies, the time and what is in force. */
+/* The source's pw_state: these values, or where there are none zeros with the ranges, the energies, the
+ * time and what is in force. */
 struct leaf_power_vals leaf_pw_state(struct leaf_pw pw);
 
 /* A number as it is shown: its decimals, its unit by pw.h's number, and whether its range is passed,
@@ -470,7 +470,7 @@ struct leaf_val leaf_energy_val(struct leaf_power_vals pv);
 /* The main value that the telephone is told: a power as volts, held to 65534 counts. */
 struct leaf_val leaf_bt_main(struct leaf_power_vals pv);
 
-/* The source's pw_partial, what is shown before there is a reading: text 0 nothing to show, 1
+/* The source's pw_partial, what is shown in place of a reading: text 0 nothing to show, 1
  * "Zeroing: leads open", 2 "V calibration...", 3 "I ranging...". Without volts their number is 0.0,
  * with 0 decimals, in unit 0 (V), not over. */
 struct leaf_partial {

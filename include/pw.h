@@ -5,6 +5,7 @@
  * convention. It allocates nothing, keeps nothing between calls, and needs no
  * other library. Every function answers for every argument, but for what its
  * comment says of pointers and of bools, and may be called from any thread.
+ * The header is C99 or later, or C++.
  *
  * The processor's floating-point mode must be the one that a C program starts
  * with: rounding to nearest, subnormals neither flushed to zero nor read as
@@ -166,14 +167,14 @@ uint8_t pw_acc_add(struct pw_acc *acc, float joules);
  *          infinite where `frac` is. */
 float pw_acc_wh(struct pw_acc acc);
 
-/* The units that a number is shown in. Today only PW_UNIT_W to PW_UNIT_KVAH can
- * be returned. */
+/* The units that a number is shown in; M is milli in each name, never mega.
+ * Today only PW_UNIT_W to PW_UNIT_KVAH can be returned. */
 #define PW_UNIT_V 0
 #define PW_UNIT_A 1
 #define PW_UNIT_MA 2 /* mA */
 #define PW_UNIT_UA 3 /* uA, the micro sign as u */
 #define PW_UNIT_W 4
-#define PW_UNIT_MW 5 /* mW: a thousandth of a watt, as for the others in m */
+#define PW_UNIT_MW 5 /* mW */
 #define PW_UNIT_KW 6
 #define PW_UNIT_VA 7
 #define PW_UNIT_MVA 8
@@ -183,10 +184,10 @@ float pw_acc_wh(struct pw_acc acc);
 #define PW_UNIT_KWH 12
 #define PW_UNIT_VAH 13
 #define PW_UNIT_KVAH 14
-#define PW_UNIT_MV 15
-#define PW_UNITS 16
+#define PW_UNIT_MV 15 /* a phone is sent mW as mV */
+#define PW_UNITS 16   /* how many there are; no unit */
 
-/* The name of a unit in ASCII, as "mWh"; "?" for any number that is none. The
+/* The name of a unit in ASCII, as "mWh"; "?" for 16 to 255, which are none. The
  * text lasts as long as the program and must not be written. It is C of this
  * header, and no part of libpw.a. */
 static inline const char *pw_unit_name(uint8_t unit)
@@ -198,10 +199,12 @@ static inline const char *pw_unit_name(uint8_t unit)
 }
 
 /* A number as it is shown: in `unit`, with `decimals` digits behind the point.
- * `number` itself is not rounded to them; printf("%.*f", decimals, number)
- * does that. A number below zero may then print as -0.0000, which a display
- * wants without its sign. Padding follows `unit`, so records cannot be compared
- * byte by byte. */
+ * `number` itself is not rounded to them; snprintf with "%.*f", decimals and
+ * number does that, in 46 bytes at the most with the NUL. The decimals are
+ * chosen before this rounding, so 9.99996 with 4 of them is 10.0000. Minus
+ * zero, and a number just below zero, become -0.0000: a display shows 0.0 where
+ * fabsf(number * 10^decimals) < 0.5f. A NaN may become nan or -nan. Padding
+ * follows `unit`, so records cannot be compared byte by byte. */
 struct pw_format {
     float number;
     uint8_t decimals;
@@ -229,6 +232,8 @@ struct pw_format pw_energy_format(float wh, bool va);
  *
  * Takes:   any two floats: `fs`, the full scale in watts, and `si`, the power
  *          in watts, or VA where not `watts`. A bool must be 0 or 1, as C's is.
+ *          The limits are 6, 60, 600 and 1000 V, and 600 uA, 6 mA, 60 mA,
+ *          600 mA, 6 A and 10 A.
  * Returns: kW, si * 0.001 and 3 decimals where fs is 9000 or more. Else mW and
  *          si * 1000 where fs is below 1, else W and si, with 4 decimals where
  *          f is below 10, 3 below 100, 2 below 1000, else 1; f is fs * 1000 *

@@ -2,10 +2,10 @@
  * four a float is one at which a rule changes, infinities and NaN among them, and one time in four it has any
  * bits. The same seed gives the same lines. */
 #include "floats.h"
+#include "lines.h"
 
 #include <inttypes.h>
 #include <stdio.h>
-#include <stdlib.h>
 
 static void put_floats(uint64_t *state, int count, int high)
 {
@@ -59,11 +59,5 @@ static void put_line(uint64_t *state)
 
 int main(int argc, char **argv)
 {
-    if (argc != 3)
-        return 2;
-    uint64_t state = strtoull(argv[1], NULL, 10);
-    uint64_t lines = strtoull(argv[2], NULL, 10);
-    for (uint64_t k = 0; k < lines; k++)
-        put_line(&state);
-    return fflush(stdout) == 0 ? 0 : 1;
+    return put_lines(argc, argv, put_line);
 }

@@ -50,7 +50,7 @@ static const struct field value_fields[] = {
 };
 enum { VALUE_FIELDS = sizeof value_fields / sizeof value_fields[0] };
 
-/* The readouts, the energy box and the telephone's main value; what is shown before there is a reading;
+/* The readouts, the energy box and the telephone's main value; what is shown in place of a reading;
  * whether energy is being counted; the telephone's mode byte. */
 struct shown {
     struct leaf_readouts readouts;

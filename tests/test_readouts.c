@@ -3,24 +3,11 @@
  * bound.
  *
  * The last line counts the checks, and the status is 1 where one failed. */
+#include "checks.h"
 #include "floats.h"
 #include "formats.h"
 #include "pw.h"
 #include "shown.h"
-
-static uint64_t checks, failed;
-
-/* One check; the first ten that fail are shown. */
-static bool expect(bool holds, const char *what)
-{
-    checks++;
-    if (holds)
-        return true;
-    failed++;
-    if (failed <= 10)
-        printf("%s fails\n", what);
-    return false;
-}
 
 /* ---- the rule ---- */
 
@@ -274,12 +261,6 @@ int main(void)
     check_minus_zero(&state);
     check_signum(&state);
     check_mode_byte();
-    for (size_t k = 0; k < CASES; k++) {
-        checks++;
-        failed += met[k] < 50 ? 1 : 0;
-        if (met[k] < 50)
-            printf("case %zu was met %" PRIu64 " times\n", k, met[k]);
-    }
-    printf("test_readouts: %" PRIu64 " checks, %" PRIu64 " failed\n", checks, failed);
-    return failed == 0 ? 0 : 1;
+    expect_met(met, CASES);
+    return tell_checks("test_readouts");
 }

@@ -3,21 +3,9 @@
  * keep the source's rules in states that no order leads to.
  *
  * The last line counts the checks, and the status is 1 where one failed. */
+#include "checks.h"
 #include "fields.h"
 #include "meters.h"
-
-static uint64_t checks, failed;
-
-/* One check; the first ten that fail are shown. */
-static void expect(bool holds, const char *what)
-{
-    checks++;
-    if (holds)
-        return;
-    failed++;
-    if (failed <= 10)
-        printf("%s fails\n", what);
-}
 
 static void expect_same(const struct leaf_pw *expected, const struct leaf_pw *got, const char *what)
 {
@@ -256,6 +244,5 @@ int main(void)
     check_window_kept(&state);
     check_barred_floor();
     check_barred_again();
-    printf("test_state: %" PRIu64 " checks, %" PRIu64 " failed\n", checks, failed);
-    return failed == 0 ? 0 : 1;
+    return tell_checks("test_state");
 }

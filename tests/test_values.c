@@ -3,23 +3,11 @@
  * leads to: ranges past the tables, jobs of any number, a clock behind the start of an overload.
  *
  * The last line counts the checks, and the status is 1 where one failed. */
+#include "checks.h"
 #include "floats.h"
 #include "meters.h"
 #include "shown.h"
 #include "value_rule.h"
-
-static uint64_t checks, failed;
-
-/* One check; the first ten that fail are shown. */
-static void expect(bool holds, const char *what)
-{
-    checks++;
-    if (holds)
-        return;
-    failed++;
-    if (failed <= 10)
-        printf("%s fails\n", what);
-}
 
 static void expect_values(const struct leaf_power_vals *expected, const struct leaf_power_vals *got, const char *what)
 {
@@ -213,12 +201,6 @@ int main(void)
         check_meter(meter_at_limit(&state));
     }
     check_current_floor();
-    for (size_t k = 0; k < CASES; k++) {
-        checks++;
-        failed += met[k] < 50 ? 1 : 0;
-        if (met[k] < 50)
-            printf("case %zu was met %" PRIu64 " times\n", k, met[k]);
-    }
-    printf("test_values: %" PRIu64 " checks, %" PRIu64 " failed\n", checks, failed);
-    return failed == 0 ? 0 : 1;
+    expect_met(met, CASES);
+    return tell_checks("test_values");
 }

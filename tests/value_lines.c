@@ -2,10 +2,10 @@
  * the floats one in three is near a bound of a format, one in four has any bits or is special (floats.h), and
  * the rest are figures of a meter. The same seed gives the same lines. */
 #include "floats.h"
+#include "lines.h"
 
 #include <inttypes.h>
 #include <stdio.h>
-#include <stdlib.h>
 
 static uint64_t below(uint64_t *state, uint64_t n)
 {
@@ -125,11 +125,5 @@ static void put_line(uint64_t *state)
 
 int main(int argc, char **argv)
 {
-    if (argc != 3)
-        return 2;
-    uint64_t state = strtoull(argv[1], NULL, 10);
-    uint64_t lines = strtoull(argv[2], NULL, 10);
-    for (uint64_t k = 0; k < lines; k++)
-        put_line(&state);
-    return fflush(stdout) == 0 ? 0 : 1;
+    return put_lines(argc, argv, put_line);
 }

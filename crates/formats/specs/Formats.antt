@@ -24,7 +24,7 @@ hundredThousand = ofBits binary32 0x47c3_5000  -- 100_000.0
 abbrev pub fullScaleMargin : Float
 fullScaleMargin = ofBits binary32 0x3f86_6666  -- 1.05
 
--- `dec` for a, which is the size of the figure in `energy_format`, and the full scale with its sign in `p_format`. The source tests 10_000.0 as well there, with 1 on both sides
+-- `dec` for a: in `energy_format` the size of the figure, in `p_format` its `f` with its sign. The source tests 10_000.0 as well there, with 1 on both sides
 unfoldable pub decimalsOf : Float → ℕ
 decimalsOf a = cond (lt a ten) 4 (cond (lt a hundred) 3 (cond (lt a thousand) 2 1))
 

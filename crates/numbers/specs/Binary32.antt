@@ -1,4 +1,4 @@
--- Binary32 as the source computes with it: its operators, and `is_finite`, `abs`, `max` and `clamp` of Rust's `f32`, over every value.
+-- Binary32 as the source computes with it: its operators, and `is_finite`, `abs`, `max`, `clamp` and `signum` of Rust's `f32`, over every value.
 -- A value is lib.Ieee's: `nan` (there is only one, so one NaN equals another), `inf s`, or `fin s m e`, which is m * 2 ^ e; the sign s is true for minus.
 use mathlib.Core.Bool.{Bool, true, false, cond}
 use lib.Ieee.{Float, nan, inf, fin, binary32, add, sub, mul, div, lt, neg, isNan, ofBits}

@@ -1,12 +1,12 @@
 -- What follows from the definitions: an energy is never over and what is over has the number 0.0; no readout is minus zero; what the energy box takes from the source's `reading_vals`; and a count that the phone is sent fits.
-use mathlib.Core.Path.{_≡_, refl}
+use mathlib.Core.Path.{_≡_, refl, sym, _∙_}
 use mathlib.Core.Logic.{_⊎_, inl, inr}
-use mathlib.Core.Bool.{Bool, true, false, cond, not, _||_}
+use mathlib.Core.Bool.{Bool, true, false, cond, not, _||_, true≢false}
 use Prim.Native.Nat.{ℕ, zero, suc, _-_, _≤_}
 use native.Mathlib.Omega.{arith}
 use lib.Dec.{eqb}
 use lib.Ieee.{Float}
-use Rattle.numbers.specs.Binary32.{_*f_, zeroF, oneF, isFinite}
+use Rattle.numbers.specs.Binary32.{_*f_, zeroF, oneF, isFinite, signumOf}
 use Rattle.numbers.proofs.Cases.{either}
 use Rattle.tables.specs.Bounds.{atMost}
 use Rattle.tables.specs.Calibration.{million}
@@ -24,7 +24,7 @@ use Rattle.formats.proofs.Stated.{minusZero, plus-zero, shown-no-minus-zero, un
 use Rattle.values.specs.declared.power_vals.PowerVals.{PowerVals}
 use Rattle.readouts.specs.declared.bluetooth.Fitted.{Fitted}
 use Rattle.readouts.specs.Readings.{fullScale, voltDecimals, mainSi, anyOver, vReadout, iFormat, iReadout, energyReadout, powerReadout, mainReadout, readingVals, energyVal}
-use Rattle.readouts.specs.Bluetooth.{tenth, tooLarge, decimalsThatFit, heldNumber, voltGroup, btVal, btMain}
+use Rattle.readouts.specs.Bluetooth.{tenth, heldCount, tooLarge, decimalsThatFit, heldNumber, voltGroup, btVal, btMain}
 
 -- ---- document 01: "over gives number 0.0"
 
@@ -149,10 +149,17 @@ fits x k zero = inr refl
 fits x k (suc most) = fits-by (tooLarge x k) x k most (decimalsThatFit x (k *f tenth) most) refl (fits x (k *f tenth) most)
 
 -- so the number that is sent is the figure itself, with a count that fits, or 65534 with its sign and no decimal
-pub held-or-fits : (x : Float) (f : Fitted) → Fits x f → (heldNumber x (f .k) ≡ x) ⊎ (f .dec ≡ 0)
+abbrev Sent : Float → Fitted → Type 0
+Sent x f = ((tooLarge x (f .k) ≡ false) × (heldNumber x (f .k) ≡ x)) ⊎ ((f .dec ≡ 0) × (heldNumber x (f .k) ≡ signumOf x *f heldCount))
+
+sent-by : (t : Bool) (x : Float) (f : Fitted) → tooLarge x (f .k) ≡ t → Fits x f → Sent x f
 unfolding heldNumber
-held-or-fits x f (inl e) = inl (rw e)
-held-or-fits x f (inr e) = inr e
+sent-by false x f e h = inl (e, rw e)
+sent-by true x f e (inl d) = absurd (true≢false (sym e ∙ d))
+sent-by true x f e (inr d) = inr (d, rw e)
+
+pub sent-fits-or-held : (x k : Float) (most : ℕ) → Sent x (decimalsThatFit x k most)
+sent-fits-or-held x k most = sent-by _ x (decimalsThatFit x k most) refl (fits x k most)
 
 less : (n m k : ℕ) → n ≤ m → m ≤ k → n ≤ k
 less n m k h j = omega (arith, h, j)

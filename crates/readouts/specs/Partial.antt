@@ -39,7 +39,7 @@ rangingBy NoValues p = p
 unfoldable pub ranging : Pw → Partial
 ranging m = rangingBy (pwVals m) (voltsSoFar m)
 
--- none while off, and where a reading exists; a job is told before that. (The source's comment has none also where "nothing is measured"; its code shows the third text there, and so does this)
+-- none while off; a job is told even where there are values; else none where there are. (The source's comment says none where "nothing is measured", which by its code is off: on, with nothing measured yet, it shows the third text)
 unfoldable pub pwPartial : Pw → Partial
 pwPartial m =
     cond (m .mode .on)

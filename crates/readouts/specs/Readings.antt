@@ -69,6 +69,6 @@ unfoldable pub readingVals : PowerVals → Readouts
 readingVals pv =
     record { main = mainReadout pv; v = vReadout pv; i = iReadout pv; si = cond (anyOver (pv .limits)) zeroF (mainSi pv) }
 
--- `energy_val`: "the energy (Wh; VAh in the fallback), or P when the main readout shows the energy", and for every other `main` but MAIN_P. The source takes P from `reading_vals` with main P (the law `box-of-power`)
+-- `energy_val`: "the energy (Wh; VAh in the fallback)" where `main` is MAIN_P, and P for every other number, also one that is none of the three. The source takes P from `reading_vals` with main P: the law `box-of-power` (proofs/Stated.antt) says that this is the same
 unfoldable pub energyVal : PowerVals → Val
 energyVal pv = cond (eqb (pv .«in_force» .main) mainP) (energyReadout (pv .«in_force» .alt) pv) (powerReadout pv)

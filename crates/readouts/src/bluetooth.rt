@@ -17,7 +17,8 @@ use formats::units::same_unit;
 use tables::bounds::at_most;
 use values::power_vals::PowerVals;
 
-// The mode byte of DC V: 8 times 5 for an automatic range, else 8 times one more than the V range.
+// The mode byte of DC V: 8 times 5 for an automatic range, else 8 times one more than the V range,
+// where one above 3 counts as 3.
 pub fn bt_mode_byte(v_auto: bool, vr: u8) -> u8
     ensures { λ r. ⌜ r ≡ btModeByte «v_auto» vr ⌝ }
 {
@@ -65,7 +66,8 @@ fn too_large(x: f32, k: f32) -> bool
     numbers::abs(x) * k + 0.5 >= 65535.0
 }
 
-// The decimals of a count that fits, or none, and the power of ten for them.
+// How many decimals fit, possibly 0, and the factor that goes with them: ten to the most, times 0.1 for
+// each one dropped.
 pub struct Fitted {
     pub k: f32,
     pub dec: u8,

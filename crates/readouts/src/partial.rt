@@ -1,4 +1,4 @@
-// `pw_partial` of the source: what is shown while there is no reading.
+// `pw_partial` of the source: what is shown in place of a reading.
 ghost use mathlib.Core.Path.{_≡_};
 ghost use Rattle.readouts.specs.Partial.{partialText, voltsSoFar, ranging, pwPartial};
 use crate::readings::volt_decimals;
@@ -12,8 +12,8 @@ use tables::constants::JOB_ZERO;
 use values::vals::Vals;
 use values::vals::pw_vals;
 
-// Nothing, off or where there is a reading; a job; the current still being ranged, with the volts
-// where they are measured.
+// Nothing while off; a zero or a gain job while one runs; else nothing where there is a reading, and
+// where there is none the current still being ranged, with the volts where they are measured.
 pub enum Partial {
     Nothing,
     Zeroing,
@@ -35,7 +35,7 @@ pub fn partial_text(partial: Partial) -> u8
     }
 }
 
-// The volts of the latest result, while no job runs.
+// Ranging, with the volts so far where they are measured and no job runs.
 fn volts_so_far(pw: Pw) -> Partial
     ensures { λ r. ⌜ r ≡ voltsSoFar pw ⌝ }
 {

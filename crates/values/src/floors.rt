@@ -83,8 +83,8 @@ fn by_coupling(ac: bool, parts: Parts) -> Parts
     parts
 }
 
-// The parts that count: in the simultaneous method those above their floors, in AC coupling none of
-// the DC parts.
+// The parts that count: in the simultaneous method AC parts that reach their floors, in AC coupling
+// none of the DC parts.
 pub(crate) fn used_parts(mode: Mode, reached: Reached, parts: Parts) -> Parts
     ensures { λ r. ⌜ r ≡ usedParts mode reached parts ⌝ }
 {

@@ -102,7 +102,8 @@ fn phase_shown(ac: bool, both: bool, ranges: Ranges, figures: Figures) -> Figure
     }
 }
 
-// The figures by each method, with r ohms between meter and load.
+// The figures by each method, with r ohms between meter and load (of no account in the alternating
+// one).
 pub(crate) fn load_figures(
     mode: Mode,
     reached: Reached,
@@ -124,7 +125,7 @@ pub(crate) fn load_figures(
     figures
 }
 
-// The DC and AC parts at the load, in the simultaneous method and AC+DC coupling; else zeros.
+// The DC and AC parts behind r ohms, in the simultaneous method and AC+DC coupling; else zeros.
 pub(crate) fn split(mode: Mode, used: Parts, r: f32) -> Split
     ensures { λ f. ⌜ f ≡ split mode used r ⌝ }
 {

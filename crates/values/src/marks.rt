@@ -139,7 +139,7 @@ pub(crate) fn hint(mode: Mode, seen: u8, ranges: Ranges, parts: Parts, reached: 
 }
 
 // Whether a frequency is to be had: not in DC coupling; in the simultaneous method where the
-// comparator has one and the channel that it watches is above its floor; in the alternating one yes.
+// comparator has one and the channel that it watches reaches its floor; in the alternating one yes.
 pub(crate) fn frequency(mode: Mode, comparator: Comparator, reached: Reached) -> bool
     ensures { λ r. ⌜ r ≡ frequency mode comparator reached ⌝ }
 {

@@ -15,7 +15,7 @@ pub(crate) fn alternating(mode: Mode) -> bool
     if mode.alt { !mode.dc } else { false }
 }
 
-// The simultaneous method, the source's `b`.
+// The simultaneous method (method B), the source's `b`.
 pub(crate) fn simultaneous(mode: Mode) -> bool
     ensures { λ r. ⌜ r ≡ simultaneous mode ⌝ }
 {

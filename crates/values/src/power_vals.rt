@@ -39,9 +39,9 @@ pub struct Limits {
     pub over_left: u16,
 }
 
-// The source's `vp`, `ip` and `pp`: DC and AC parts of volts, amperes and watts at the load, with AC parts
-// below their floors counted as 0. They are shown in AC+DC coupling of the simultaneous method; else all
-// are 0.
+// The source's `vp`, `ip` and `pp`: DC and AC parts of volts, amperes and watts, at the load where `comp`,
+// else in front of the path, with AC parts below their floors counted as 0. They are shown in AC+DC
+// coupling of the simultaneous method; else all are 0.
 #[repr(C)]
 pub struct Split {
     pub v_dc: f32,
@@ -52,9 +52,11 @@ pub struct Split {
     pub p_ac: f32,
 }
 
-// `load` has p, s, q, pf, v and i. `vdc` and `idc` are the DC parts as measured, in front of the path: NaN in
-// AC coupling, `vdc` in the alternating method too. `f_ok` is whether a frequency is to be had, `burden_v`
-// the drop in the meter's own path, `hint` 0, HINT_NO_AC or HINT_AC.
+// `load` has p, s, q, pf, v and i: at the load where `comp`, else in front of the path, as always in the
+// alternating method. In that method p, q and pf are NaN; in AC coupling of the simultaneous method s, q
+// and pf are, where an AC part does not reach its floor. `vdc` and `idc` are the DC parts as measured, in
+// front of the path: NaN in AC coupling, `vdc` in the alternating method too. `f_ok` is whether a frequency
+// is to be had, `burden_v` the drop in the meter's own path, `hint` 0, HINT_NO_AC or HINT_AC.
 #[repr(C)]
 pub struct PowerVals {
     pub load: Figures,
@@ -101,7 +103,7 @@ impl PowerVals {
             e_wh: 0.0,
             vah: 0.0,
             secs: 0,
-            p_avg: 0.0,
+            p_avg: 0.0, // the one that is not the source's
         },
         ranges: Ranges {
             vr: 3,
