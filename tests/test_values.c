@@ -148,10 +148,10 @@ static void check_meter(struct leaf_pw pw)
     struct leaf_power_vals state = expected.measured ? expected.vals : unmeasured(&pw), shown = leaf_pw_state(pw);
     expect_values(&state, &shown, "the state");
     struct leaf_partial e = expected_partial(&pw), g = leaf_pw_partial(pw);
-    expect(g.text == e.text && g.with_volts == e.with_volts, "what is shown before a reading");
+    expect(g.text == e.text && g.with_volts == e.with_volts, "what is shown in place of a reading");
     expect(same32(g.volts.number, e.volts.number) && g.volts.decimals == e.volts.decimals
                && g.volts.unit == e.volts.unit && g.volts.over == e.volts.over,
-           "the volts before a reading");
+           "the volts in place of a reading");
     expect(leaf_integrating(pw) == expected_integrating(&pw), "whether energy is being counted");
     count_cases(&pw, &expected);
 }

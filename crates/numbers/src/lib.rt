@@ -64,10 +64,10 @@ pub fn signum(x: f32) -> f32
     if x != x {
         return x;
     }
-    if f32::to_bits(x) >= 0x8000_0000 {
-        -1.0
-    } else {
+    if f32::to_bits(x) < 0x8000_0000 {
         1.0
+    } else {
+        -1.0
     }
 }
 

@@ -22,13 +22,13 @@ returns-2 : tie.Need-returns-2
 unfolding signumOf
 returns-2 c =
     let N = number _ (c .before .if1 .left) in
-    simp (N, sym (sign-bit binary32 _ (held (c .before .before)) N) ∙ le-leb _ _ (c .if2 .taken))
+    simp (N, sym (sign-bit binary32 _ (held (c .before .before)) N) ∙ lt-leb _ _ (c .if2 .taken))
 
 returns-3 : tie.Need-returns-3
 unfolding signumOf
 returns-3 c =
     let N = number _ (c .before .if1 .left) in
-    simp (N, sym (sign-bit binary32 _ (held (c .before .before)) N) ∙ lt-leb _ _ (c .if2 .left))
+    simp (N, sym (sign-bit binary32 _ (held (c .before .before)) N) ∙ le-leb _ _ (c .if2 .left))
 
 pub signum-spec : {M : Type 1} → statement M
 signum-spec = tie.close (tie.spec returns float-to-bits-if2 returns-2 returns-3)
