@@ -6,7 +6,7 @@ ghost use Prim.Native.Nat.{_≤_, _<_, _^_};
 ghost use lib.IntN.{pos};
 ghost use lib.Ieee.{nan, binary32, binary64, ofInt, toSigned, ofBits};
 ghost use Rattle.numbers.specs.Binary32.{isFinite, absOf, maxOf, signumOf, clampOf};
-ghost use Rattle.numbers.specs.Convert.{roundedQuotient, narrow};
+ghost use Rattle.numbers.specs.Convert.{roundedQuotient, narrow, halfAway};
 ghost use Rattle.numbers.specs.Root.{heron, sqrtOf, hypotOf};
 
 // ---- Rust's methods of f32
@@ -186,6 +186,13 @@ pub fn f32_to_i8(x: f32) -> i8
     ensures { λ r. ⌜ r ≡ toSigned 7 x ⌝ }
 {
     cut(x, 7) as i8
+}
+
+// Half further from zero: cut, it is a rounded half away from zero.
+pub fn half_away(a: f32) -> f32
+    ensures { λ r. ⌜ r ≡ halfAway a ⌝ }
+{
+    if a < 0.0 { a - 0.5 } else { a + 0.5 }
 }
 
 // ---- between the formats

@@ -124,7 +124,7 @@ pub(crate) fn zero_d(corrections: Corrections, ik: u8) -> i16
 }
 
 // The zero of the LPF's voltage, 0 while none is stored.
-pub(crate) fn zero_y(corrections: Corrections) -> i16
+pub fn zero_y(corrections: Corrections) -> i16
     ensures { λ r. ⌜ r ≡ zeroY corrections ⌝ }
 {
     if corrections.zero_ok {
@@ -135,14 +135,14 @@ pub(crate) fn zero_y(corrections: Corrections) -> i16
 }
 
 // A code less its zero, as a float.
-pub(crate) fn code_less(code: i32, zero: i16) -> f32
+pub fn code_less(code: i32, zero: i16) -> f32
     ensures { λ r. ⌜ r ≡ codeLess code zero ⌝ }
 {
     numbers::i64_to_f32((code as i64) - (zero as i64))
 }
 
 // The root of the RMS code; one below zero counts as zero.
-pub(crate) fn rms_root(rms: i64) -> f32
+pub fn rms_root(rms: i64) -> f32
     ensures { λ r. ⌜ r ≡ rmsRoot rms ⌝ }
 {
     if rms < 0 {
