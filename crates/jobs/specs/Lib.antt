@@ -1,0 +1,5 @@
+pub mod With
+pub mod Bench
+pub mod Step
+pub mod Frame
+pub mod Whole

@@ -1,0 +1,4 @@
+pub mod Trial
+pub mod Bound
+pub mod Nearest
+pub mod Stated
