@@ -27,6 +27,10 @@ use Rattle.readouts.specs.declared.readings.Readouts.{Readouts}
 use Rattle.readouts.specs.declared.partial.Partial.{Partial}
 use Rattle.readouts.specs.declared.partial.Partial.the-variants as partial
 use Rattle.readouts.specs.Partial.{partialText}
+use lib.IntN.{pos}
+use Rattle.phase.specs.declared.CalOutcome.{CalOutcome}
+use Rattle.phase.specs.Phase.{calNumber, calSteps}
+use Rattle.leaves.specs.declared.jobbed.HostOutcome.{HostOutcome}
 use Rattle.leaves.specs.declared.measured.MeasuredPw.{MeasuredPw}
 use Rattle.leaves.specs.declared.valued.HostPartial.{HostPartial}
 use Rattle.leaves.specs.declared.valued.HostReadouts.{HostReadouts}
@@ -84,6 +88,10 @@ appliedPw m a =
       mark = record { set = true; at = a .deadline };
       «to_values» = false;
     }
+
+-- the outcome by its number, with its steps; 0 steps stand where there are none
+unfoldable pub hostOutcome : CalOutcome → HostOutcome
+hostOutcome o = record { number = calNumber o; steps = calSteps o (pos 0) }
 
 -- values, or the source's ZERO where there are none: a mark tells which
 unfoldable pub hostVals : Vals → HostVals

@@ -10,6 +10,7 @@ ghost use Rattle.numbers.specs.Root.{sqrtOf, hypotOf};
 ghost use Rattle.codes.specs.Flags.{holdsAd1, holdsRmsLpf};
 
 pub mod figured;
+pub mod jobbed;
 pub mod measured;
 pub mod tabled;
 pub mod valued;

@@ -1,15 +1,17 @@
--- Document 01's table "Frames and figures on each side": its rows marked P, so far all but the one on the mean of zero readings, each a test of the definition that the contracts cite.
+-- Document 01's table "Frames and figures on each side": its rows marked P, each a test of the definition that the contracts cite.
 -- One list for all modules, checked as a whole in proofs/Checked.antt.
 use mathlib.Core.Bool.{Bool, true, false, _&&_}
 use mathlib.Core.List.{List, [], _∷_, _++_}
 use Prim.Native.Nat.{ℕ}
 use lib.Dec.{eqb}
 use lib.IntN.{ℤ, pos, negsuc}
+use lib.ListN.{getD}
 use lib.Ieee.{Float, binary32, eq, round}
 use Rattle.codes.specs.declared.Decoded.{Decoded}
 use Rattle.codes.specs.declared.Decoded.the-variants.{Taken, Refused}
 use Rattle.codes.specs.Frame.{decoded}
 use Rattle.numbers.specs.Decimal.{decimal}
+use Rattle.tables.specs.Calibration.{noCalibration}
 use Rattle.tables.specs.Ranges.{iuIr}
 use Rattle.tables.specs.declared.window.Window.{Window}
 use Rattle.tables.specs.declared.window.Window.the-variants.{NoWindow, R21}
@@ -17,6 +19,12 @@ use Rattle.tables.specs.Window.{cmpWindow}
 use Rattle.figures.specs.declared.acc.Added.{Added}
 use Rattle.figures.specs.declared.acc.Added.the-variants.{Sum, Full}
 use Rattle.figures.specs.Acc.{freshAcc, addTo}
+use Rattle.state.specs.Fresh.{newPw}
+use Rattle.steps.specs.declared.place.Kind.the-variants.{Zero}
+use Rattle.jobs.specs.declared.bench.Bench.{Bench}
+use Rattle.jobs.specs.Bench.{begun}
+use Rattle.jobs.specs.Frame.{jobFrame}
+use Rattle.jobs.specs.Whole.{benchIn}
 
 -- `negsuc n` is -(n + 1)
 abbrev sameInt : ℤ → ℤ → Bool
@@ -62,6 +70,18 @@ abbrev isNone : Window → Bool
 isNone NoWindow = true
 isNone (R21 code) = false
 
+-- a meter's zero job that has begun: a description and words, of which a zero reading takes nothing
+abbrev begunBench : Bench
+begunBench = begun 0 Zero (benchIn (newPw (record { «mv_div» = []; shunt = []; over = decimal 1 0; «a_auto» = false }) noCalibration)) .bench
+
+-- a frame with this LPF code, RMS and LPF ready
+abbrev zeroFrame : ℤ → Bench → Bench
+zeroFrame lpf b = jobFrame 0 noCalibration 0x18 (record { ad1 = pos 0; lpf = lpf; rms = pos 0 }) b .bench
+
+-- the zero that the first step notes, of a frame that is dropped and these three readings
+abbrev zeroOf : ℤ → ℤ → ℤ → ℤ
+zeroOf a b c = getD (zeroFrame c (zeroFrame b (zeroFrame a (zeroFrame (pos 4000) begunBench))) .job .«job_zx») 0 (pos 0)
+
 -- an add to what an earlier one left
 abbrev addAgain : Float → Added → Added
 addAgain joules (Sum a w) = addTo a joules
@@ -88,6 +108,7 @@ rows =
     ∷ isR21 0xdd (cmpWindow (decimal 0 0) (decimal 5 2))
     ∷ isNone (cmpWindow (decimal 0 0) (decimal 2 2))
     ∷ isR21 0x06 (cmpWindow (decimal 1 0) (decimal 1 0))
+    ∷ sameInt (zeroOf (negsuc 1) (negsuc 1) (negsuc 0)) (negsuc 1)
     ∷ isSum (pos 1) (decimal 953125 6) (addAgain small (addTo freshAcc small))
     ∷ []
 

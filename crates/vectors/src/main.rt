@@ -9,6 +9,7 @@ use figures::tally::Tally;
 use formats::format::Format;
 use refusals::Refusal;
 use state::Pw;
+use steps::place::Place;
 use tables::calibration::Calibration;
 use tables::description::Description;
 use tables::window::Window;
@@ -439,6 +440,65 @@ fn high_power_rows(s: Score) -> Score {
     row(s, 126, shows_power(3, 5, 3, 6))
 }
 
+// Whether the null at `s` steps has this result and these steps, 0 where it has none.
+fn has_outcome(s: f32, number: u8, steps: i8) -> bool {
+    let outcome = phase::cal_outcome(s);
+    let n = phase::cal_number(outcome);
+    let found = phase::cal_steps(outcome, 0);
+    if n != number {
+        return false;
+    }
+    found == steps
+}
+
+// Rows 127 to 129: document 01, `cal_outcome` 127.49, 127.5 and infinite. Rows 130 to 134: the same below
+// zero, of a NaN, and halves, by the published text. 2 is CAL_OK, 3 CAL_FLAT and 5 CAL_RANGE.
+fn outcome_rows(s: Score) -> Score {
+    let mut s = s;
+    s = row(s, 127, has_outcome(127.49, 2, 127));
+    s = row(s, 128, has_outcome(127.5, 5, 0));
+    s = row(s, 129, has_outcome(1.0 / 0.0, 3, 0));
+    s = row(s, 130, has_outcome(-127.49, 2, -127));
+    s = row(s, 131, has_outcome(-127.5, 5, 0));
+    s = row(s, 132, has_outcome(numbers::nan(), 3, 0));
+    s = row(s, 133, has_outcome(0.5, 2, 1));
+    row(s, 134, has_outcome(-0.5, 2, -1))
+}
+
+// Row 135: document 01, zero readings -2, -2, -1. Rows 136 and 137: a mean held to 16 bits. Row 138: a half
+// goes away from zero.
+fn mean_rows(s: Score) -> Score {
+    let mut s = s;
+    let mean = (0.0 - 2.0 - 2.0 - 1.0) / 3.0;
+    s = row(s, 135, steps::verdict::zero_mean(mean) == -2);
+    s = row(s, 136, steps::verdict::zero_mean(40000.0) == 32767);
+    s = row(s, 137, steps::verdict::zero_mean(-40000.0) == -32768);
+    row(s, 138, steps::verdict::zero_mean(0.5) == 1)
+}
+
+// Whether these codes are a signal at step 0 (`lpf` and `rms`) or at step 6 (`ad1`), with no zero stored.
+fn is_signal(ad1: i32, lpf: i32, rms: i64) -> bool {
+    let codes = Codes { ad1, lpf, rms };
+    if steps::reading::is_signal(Place::ZeroX, 0, codes) {
+        return true;
+    }
+    steps::reading::is_signal(Place::ZeroD, 0, codes)
+}
+
+// Rows 139 to 146: document 01, "root above 400, or further from the old zero .. than 4000 (20,000 for
+// AD1)"; 160,001 is the first RMS code whose root, as decided, is above 400.
+fn signal_rows(s: Score) -> Score {
+    let mut s = s;
+    s = row(s, 139, !is_signal(0, 0, 160000));
+    s = row(s, 140, is_signal(0, 0, 160001));
+    s = row(s, 141, !is_signal(0, 4000, 0));
+    s = row(s, 142, is_signal(0, 4001, 0));
+    s = row(s, 143, is_signal(0, -4001, 0));
+    s = row(s, 144, !is_signal(20000, 0, 0));
+    s = row(s, 145, is_signal(20001, 0, 0));
+    row(s, 146, is_signal(-20001, 0, 0))
+}
+
 fn main() {
     let s = rms_rows(code_rows(Score {
         agree: 0,
@@ -448,6 +508,7 @@ fn main() {
     let s = acc_rows(description_rows(window_rows(s)));
     let s = limit_rows(totals_rows(count_rows(s)));
     let s = high_power_rows(low_power_rows(format_rows(s)));
+    let s = signal_rows(mean_rows(outcome_rows(s)));
     io::print_decimal(1, s.agree);
     io::write_all(1, b" rows agree, ");
     io::print_decimal(1, s.differ);
