@@ -28,14 +28,14 @@ use Rattle.steps.specs.declared.verdict.GainVerdict.{GainVerdict}
 use Rattle.steps.specs.declared.verdict.GainVerdict.the-variants.{Unstable, Outside, Good}
 use Rattle.steps.specs.Place.{dropsOf, ready}
 use Rattle.steps.specs.Reading.{zerosIn, oldOf, readingOf, signal}
-use Rattle.steps.specs.Verdict.{zeroMean, isDc, rawVerdict, gainVerdict, meanOf}
+use Rattle.steps.specs.Verdict.{zeroMean, isDc, rawVerdict, meanOf}
 use Rattle.jobs.specs.declared.bench.Bench.{Bench}
 use Rattle.jobs.specs.declared.bench.Served.{Served}
 use Rattle.jobs.specs.With.{withCalReq, withCycle, withSkip}
 use Rattle.jobs.specs.Bench.{kindIn, placeIn, unmarked, ended, jobEnd, atStep, stepAt, next, begun}
 use Rattle.jobs.specs.Step.{over, zxNoted, zdNoted, zerosStored, zeroDone, byRaw, rawNoted, rawDone, gainStored, byGain, refNoted, verdictIn, judged, refDone, gainDone, stepDone}
-use Rattle.jobs.specs.Frame.{summed, counted, dropped, servedBy, oneUsed, served, jobFrame}
-use Rattle.jobs.specs.Whole.{benchIn, withBench, putTogether, jobStarted, jobEnded, jobPolled}
+use Rattle.jobs.specs.Frame.{summed, counted, servedBy, oneUsed, served, jobFrame}
+use Rattle.jobs.specs.Whole.{benchIn, withBench, jobStarted, jobEnded, jobPolled}
 
 -- ---- what a job cannot touch
 

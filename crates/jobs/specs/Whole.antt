@@ -1,13 +1,11 @@
 -- The jobs on a whole meter.
 use Prim.Native.Nat.{ℕ}
 use Rattle.codes.specs.declared.Codes.{Codes}
-use Rattle.state.specs.declared.Clock.{Clock}
 use Rattle.state.specs.declared.PhaseCal.{PhaseCal}
 use Rattle.state.specs.declared.Pw.{Pw}
 use Rattle.phase.specs.Phase.{calOff}
 use Rattle.steps.specs.declared.place.Kind.{Kind}
 use Rattle.jobs.specs.declared.bench.Bench.{Bench}
-use Rattle.jobs.specs.declared.bench.Served.{Served}
 use Rattle.jobs.specs.declared.whole.Started.{Started}
 use Rattle.jobs.specs.declared.whole.Polled.{Polled}
 use Rattle.jobs.specs.Bench.{jobEnd, begun, turnedAway}

@@ -5,7 +5,6 @@ use Prim.Native.Nat.{ℕ}
 use lib.IntN.{ℤ}
 use lib.Ieee.{Float}
 use Rattle.state.specs.declared.Mode.{Mode}
-use Rattle.state.specs.declared.Ranges.{Ranges}
 use Rattle.state.specs.declared.Cycle.{Cycle}
 use Rattle.state.specs.declared.Corrections.{Corrections}
 use Rattle.state.specs.declared.Job.{Job}

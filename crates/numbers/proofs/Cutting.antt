@@ -29,7 +29,7 @@ unfolding toSigned
 nan-zero h x n = subst (λ (y : Float). pos 0 ≡ toSigned h y) (sym (is-nan x n)) refl
 
 -- ---- what `le` and `lt` of two values of one sign test
-or-le : (A B : ℕ) → (ltb A B || (eqb A B && true)) ≡ true → A ≤ B
+pub or-le : (A B : ℕ) → (ltb A B || (eqb A B && true)) ≡ true → A ≤ B
 or-le A B h = go (ltb A B) (eqb A B) (ltb-true A B) (eqb-true A B) h
   where
     go : (t u : Bool) → (t ≡ true → A < B) → (u ≡ true → A ≡ B) → (t || (u && true)) ≡ true → A ≤ B

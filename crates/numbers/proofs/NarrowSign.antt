@@ -30,7 +30,7 @@ neg-units q k = go (ltb (q * 2 ^ k) (2 ^ 277))
     go true = neg-odd 25 q k 149
     go false = refl
 
-neg-round : (n d : ℕ) → neg (round binary32 false n d) ≡ round binary32 true n d
+pub neg-round : (n d : ℕ) → neg (round binary32 false n d) ≡ round binary32 true n d
 neg-round n d = ap neg (round-is binary32 false n d) ∙ neg-units _ _ ∙ sym (round-is binary32 true n d)
 
 narrow-sign : (x : Float) → isNan x ≡ false → narrow x ≡ cond (isMinus x) (neg (narrow (absOf x))) (narrow (absOf x))

@@ -1,11 +1,11 @@
 -- The steps of an outcome lie from -127 to 127: half a step beyond -127.49 stays above -128, rounded too, since rounding keeps the order.
-use mathlib.Core.Path.{_≡_, refl, sym, ap, subst, _∙_}
-use mathlib.Core.Bool.{Bool, true, false, cond, _&&_, _||_, false≢true}
+use mathlib.Core.Path.{_≡_, refl, sym, subst, _∙_}
+use mathlib.Core.Bool.{Bool, true, false, cond, _&&_, false≢true}
 use Prim.Native.Nat.{ℕ, zero, suc, _+_, _*_, _-_, _/_, _^_, _≤_, _<_, min}
-use native.Mathlib.Nat.{le-of-lt, le-of-eq, div-lt-iff-lt-mul}
+use native.Mathlib.Nat.{div-lt-iff-lt-mul}
 use native.Mathlib.Omega.{arith}
-use borrow.Author.Tests.{ltb-true, ltb-false, eqb-true, lt-ltb, le-ltb}
-use lib.Dec.{eqb, ltb}
+use borrow.Author.Tests.{ltb-false, lt-ltb, le-ltb}
+use lib.Dec.{ltb}
 use lib.IntN.{ℤ, pos, negsuc, negℤ, natAbs}
 use lib.Ieee.{Float, nan, inf, fin, binary32, up, down, odd, units, round, sum, add, sub, neg, lt, le, eq, ofBits, toSigned}
 use lib.Ieee.Fits.{round-is, down-pos}
@@ -13,36 +13,10 @@ use lib.Ieee.Order.{round-mono}
 use Rattle.numbers.specs.Binary32.{_+f_, _-f_, zeroF, isFinite}
 use Rattle.numbers.specs.Convert.{halfF, halfAway}
 use Rattle.phase.specs.Phase.{mostSteps}
+use Rattle.numbers.proofs.Cutting.{or-le}
+use Rattle.numbers.proofs.NarrowSign.{neg-round}
 use Rattle.numbers.proofs.Order.{le-neg}
 use Rattle.tables.proofs.Both.{holds}
-
--- ---- a minus sign may be put on before rounding or after
-
-neg-odd : (d q k l : ℕ) → neg (odd d false q k l) ≡ odd d true q k l
-unfolding odd neg
-neg-odd d zero k l = refl
-neg-odd d (suc q) k l = refl
-
-neg-units : (q k : ℕ) → neg (units binary32 false q k) ≡ units binary32 true q k
-unfolding units neg
-neg-units q k = go (ltb (q * 2 ^ k) (2 ^ 277))
-  where
-    go : (b : Bool) → neg (cond b (odd 25 false q k 149) (inf false)) ≡ cond b (odd 25 true q k 149) (inf true)
-    go true = neg-odd 25 q k 149
-    go false = refl
-
-neg-round : (n d : ℕ) → neg (round binary32 false n d) ≡ round binary32 true n d
-neg-round n d = ap neg (round-is binary32 false n d) ∙ neg-units _ _ ∙ sym (round-is binary32 true n d)
-
--- ---- what `le` of two values of one sign tests
-
-or-le : (A B : ℕ) → (ltb A B || (eqb A B && true)) ≡ true → A ≤ B
-or-le A B h = go (ltb A B) (eqb A B) (ltb-true A B) (eqb-true A B) h
-  where
-    go : (t u : Bool) → (t ≡ true → A < B) → (u ≡ true → A ≡ B) → (t || (u && true)) ≡ true → A ≤ B
-    go true u f g k = le-of-lt (f refl)
-    go false true f g k = le-of-eq (g refl)
-    go false false f g k = absurd (false≢true k)
 
 -- ---- cut to 7 bits and a sign: a size of at most 127.99, which is 16775905 / 2 ^ 17, and any number with a plus sign
 

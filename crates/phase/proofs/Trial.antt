@@ -1,34 +1,24 @@
 -- The trial step fits 8 bits: 48 down from above 79, 48 up from any other. Of the integers, and of what the machine reads back from their bits.
-use mathlib.Core.Path.{_≡_, refl, sym, ap, subst, _∙_}
-use mathlib.Core.Bool.{Bool, true, false, cond, false≢true}
-use Prim.Native.Nat.{ℕ, suc, _-_, _≤_, _<_}
+use mathlib.Core.Path.{_≡_, sym, ap, subst, _∙_}
+use mathlib.Core.Bool.{Bool, true, false, false≢true}
+use Prim.Native.Nat.{suc}
 use native.Mathlib.Omega.{arith}
-use borrow.Author.Tests.{ltb-true, ltb-false}
-use lib.Dec.{ltb}
-use lib.IntN.{ℤ, pos, negsuc, _+ℤ_, subℕ}
-use lib.Signed.{mag, ltZ}
+use borrow.Author.Tests.{ltb-false}
+use lib.IntN.{ℤ, pos, negsuc, _+ℤ_}
+use lib.Signed.{ltZ}
 use mir.Syntax.{w8}
 use mir.Val.{SFits, toZ, ofZ}
 use mir.ValLaws.{toZ-ofZ}
+use Rattle.figures.proofs.Within.{apart}
 use Rattle.phase.specs.Phase.{trialSteps}
 
-apart : (a b : ℕ) → a < 128 → b ≤ 128 → mag (subℕ a b) < 128
-apart a b h k = go (ltb a b) (ltb-true a b)
-  where
-    below : a < b → b - suc a < 128
-    below l = omega arith
-
-    go : (t : Bool) → (t ≡ true → a < b) → mag (cond t (negsuc (b - suc a)) (pos (a - b))) < 128
-    go true l = below (l refl)
-    go false l = omega arith
-
 pub down-fits : (z : ℤ) → SFits w8 z → ltZ (pos 79) z ≡ true → SFits w8 (z +ℤ negsuc 47)
-down-fits (pos n) f t = record { sfits = apart n 48 (omega (arith, f .sfits)) (omega arith) }
+down-fits (pos n) f t = record { sfits = apart n 48 128 (omega (arith, f .sfits)) (omega arith) }
 down-fits (negsuc n) f t = absurd (false≢true t)
 
 pub up-fits : (z : ℤ) → SFits w8 z → ltZ (pos 79) z ≡ false → SFits w8 (z +ℤ pos 48)
 up-fits (pos n) f t = record { sfits = omega (arith, ltb-false 79 n t) }
-up-fits (negsuc n) f t = record { sfits = apart 48 (suc n) (omega arith) (omega (arith, f .sfits)) }
+up-fits (negsuc n) f t = record { sfits = apart 48 (suc n) 128 (omega arith) (omega (arith, f .sfits)) }
 
 -- ---- as the machine has it
 
