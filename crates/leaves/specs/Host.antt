@@ -11,6 +11,7 @@ use Rattle.figures.specs.Tally.{accountedNumber, accountedTally, accountedWhole
 use mathlib.Core.Bool.{true, false, cond}
 use Prim.Native.Nat.{ℕ}
 use lib.Dec.{eqb}
+use lib.IntN.{pos}
 use Rattle.state.specs.declared.Pw.{Pw}
 use Rattle.ranging.specs.declared.apply.Keep.{Keep}
 use Rattle.ranging.specs.declared.apply.Keep.the-variants.{Nothing, Voltage, Current}
@@ -27,7 +28,6 @@ use Rattle.readouts.specs.declared.readings.Readouts.{Readouts}
 use Rattle.readouts.specs.declared.partial.Partial.{Partial}
 use Rattle.readouts.specs.declared.partial.Partial.the-variants as partial
 use Rattle.readouts.specs.Partial.{partialText}
-use lib.IntN.{pos}
 use Rattle.phase.specs.declared.CalOutcome.{CalOutcome}
 use Rattle.phase.specs.Phase.{calNumber, calSteps}
 use Rattle.leaves.specs.declared.jobbed.HostOutcome.{HostOutcome}
