@@ -18,9 +18,10 @@ LIBRARIES = target/staticlib
 PW = include/pw.h $(LIBRARIES)/libpw.a
 LEAVES = host/leaves.h $(LIBRARIES)/libleaves.a
 PWSCRIPT = host/pwscript.c host/words.c host/words.h
-FRAMES = tests/frames.c tests/values.c tests/values.h tests/transcript.c tests/transcript.h tests/cases.h \
-	tests/shown.h tests/fields.h tests/bits.h host/words.c host/words.h include/pw.h
+FRAMES = tests/frames.c tests/jobs.c tests/jobs.h tests/values.c tests/values.h tests/transcript.c tests/transcript.h \
+	tests/cases.h tests/shown.h tests/fields.h tests/bits.h host/words.c host/words.h include/pw.h
 VALUES = tests/test_values.c tests/checks.h tests/value_rule.h tests/meters.h tests/shown.h tests/fields.h tests/floats.h tests/bits.h
+JOBS = tests/test_jobs.c tests/checks.h tests/job_rule.h tests/meters.h tests/fields.h tests/floats.h tests/bits.h
 READOUTS = tests/test_readouts.c tests/checks.h tests/formats.h tests/shown.h tests/fields.h tests/floats.h tests/bits.h include/pw.h
 COMPILE = @mkdir -p $(@D) && echo "$(CC) $@" && $(CC) $(CFLAGS)
 INPUTS = $(filter %.c %.a,$^)
@@ -34,9 +35,10 @@ run: build/pwscript
 
 # All that the gate's host tests run.
 host: build/pwscript build/figure_lines build/value_lines build/test_pw build/test_leaves build/test_figures \
-	build/test_state build/test_values build/test_readouts build/frames build/frame_lines \
+	build/test_state build/test_jobs build/test_values build/test_readouts build/frames build/frame_lines \
 	build/sanitized/pwscript build/sanitized/test_pw build/sanitized/test_leaves build/sanitized/test_figures \
-	build/sanitized/test_state build/sanitized/test_values build/sanitized/test_readouts build/sanitized/frames
+	build/sanitized/test_state build/sanitized/test_jobs build/sanitized/test_values build/sanitized/test_readouts \
+	build/sanitized/frames
 
 test:
 	bash .ci/run
@@ -79,6 +81,12 @@ build/test_state: tests/test_state.c tests/checks.h tests/meters.h tests/fields.
 	$(COMPILE) $(PLAIN) -o $@ $(INPUTS) -lm
 
 build/sanitized/test_state: tests/test_state.c tests/checks.h tests/meters.h tests/fields.h tests/bits.h $(LEAVES)
+	$(COMPILE) $(SANITIZED) -o $@ $(INPUTS) -lm
+
+build/test_jobs: $(JOBS) $(LEAVES)
+	$(COMPILE) $(PLAIN) -o $@ $(INPUTS) -lm
+
+build/sanitized/test_jobs: $(JOBS) $(LEAVES)
 	$(COMPILE) $(SANITIZED) -o $@ $(INPUTS) -lm
 
 build/test_values: $(VALUES) $(LEAVES)

@@ -73,7 +73,7 @@ static void bench_figures(void)
           (tally = leaf_accounting_step(tally, 1000, some_figure(k), some_figure(~k), true).tally).t_int);
 }
 
-/* Frames of each path, on a meter that is kept: some 1,000 bytes go in and out by value. */
+/* Frames of each path and of zero jobs, on a meter that is kept: some 1,000 bytes go in and out by value. */
 static void bench_frames(void)
 {
     struct leaf_description d = {{1.0f, 1.0f}, {1.0f, 1.0f, 1.0f}, 1.0f, false};
@@ -83,6 +83,10 @@ static void bench_frames(void)
     BENCH("leaf_frame, B", uint64_t, (b = leaf_frame(b, k, 0x18, 0, k % 4096, k % 65536).pw).ring.ring_k);
     BENCH("leaf_frame, alt", uint64_t, (alt = leaf_frame(alt, k, 0x18, 0, k % 4096, k % 65536).pw).ring.ring_k);
     BENCH("leaf_frame, DC", uint64_t, (dc = leaf_frame(dc, k, 0x1C, k % 4096, k % 4096, k % 65536).pw).ring.ring_k);
+    struct leaf_pw job = leaf_job_start(b, 1, 0).pw;
+    BENCH("leaf_job_poll", uint64_t,
+          (job = job.job.job == 0 ? leaf_job_start(job, 1, k).pw
+                                  : leaf_job_poll(job, k, 0x1C, k % 1024, k % 1024, k % 65536).pw).job.used);
 }
 
 /* The formats; and the values of a meter that has measured all, with its readouts. */

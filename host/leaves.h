@@ -2,8 +2,8 @@
  *
  * They are exported so that they can be compared with the published Rust, function by function (by
  * pwscript) and call by call (by tests/frames.c), and with the C compiler's arithmetic (by
- * tests/test_leaves.c and tests/test_figures.c) or the published text (by tests/test_state.c and
- * tests/test_values.c). They are no part of the product's interface, pw.h.
+ * tests/test_leaves.c and tests/test_figures.c) or the published text (by tests/test_state.c,
+ * tests/test_values.c and tests/test_jobs.c). They are no part of the product's interface, pw.h.
  * Each answers for every argument; float and double mean IEEE 754's binary32 and binary64, and a
  * NaN's sign and payload are not kept. */
 #ifndef LEAVES_H
@@ -369,6 +369,71 @@ struct leaf_outcome leaf_frame(struct leaf_pw pw, uint64_t now, uint8_t flags, i
  * any other number none. Only the cycle and the comparator change; `mark` is set always, and
  * `to_values` is no. */
 struct leaf_outcome leaf_apply(struct leaf_pw pw, uint8_t keep, uint64_t now);
+
+/* ---- jobs and the phase calibration ---- */
+
+/* What a phase calibration makes of the step s at which the power is nothing: CAL_OK (2) with s less 0.5
+ * where it is below zero, else plus 0.5, in binary32, cut toward zero; CAL_FLAT (3) where s is not finite;
+ * else CAL_RANGE (5) where it is not from -127.49 to 127.49. Of the latter two the steps are 0. */
+struct leaf_cal_outcome {
+    uint8_t number;
+    int8_t steps;
+};
+struct leaf_cal_outcome leaf_cal_outcome(float s);
+
+/* A phase start that is not refused: round 1 begins, with nothing counted, from the step in force, and
+ * the result is CAL_RUN (1). sph and cal_pa come back as they were. */
+struct leaf_phase_cal leaf_cal_start(struct leaf_phase_cal before);
+
+/* The phase calibration's part of the accounting step. It acts where one runs and 8 results or more are
+ * counted, and then nothing is counted any longer. Round 1: a mean above 0.32 in size ends it with
+ * CAL_NOT_REACTIVE (4); any other, and a NaN, is kept in cal_pa, and round 2 begins 48 steps up, or 48
+ * down from a step above 79. Any other round ends it by leaf_cal_outcome of the step at which the line
+ * through both means is nothing, or of a NaN where it does not rise or fall by more than 1e-7 a step: the
+ * step found is in force then, or where there is none that of the start. cal_req becomes true at each of
+ * these ends but CAL_NOT_REACTIVE's, where it stays. */
+struct leaf_phase_step {
+    struct leaf_phase_cal phase_cal;
+    bool cal_req;
+};
+struct leaf_phase_step leaf_cal_account(struct leaf_phase_cal before, bool cal_req);
+
+/* The meter after a job's start, and the mark with the deadline: the call's time and the settling time of
+ * the step that begins, which is 450 ms for the DC reference, 2000 ms for the AC one and else 550 ms, held
+ * to the end of 64 bits. */
+struct leaf_started {
+    struct leaf_pw pw;
+    struct leaf_stamp mark;
+};
+
+/* A job start that is not refused: kind 1 is the zero job, any other number the gain job. The ranges and
+ * automatic marks are noted, the stored zeros copied, the phase calibration is off (its result and sph
+ * stay), and step 0 begins, with no ready frame used: the step's row is to be written, at any rate. It
+ * tests neither `on`, the job nor the method. */
+struct leaf_started leaf_job_start(struct leaf_pw pw, uint8_t kind, uint64_t now);
+
+/* A job start that is refused with 3: job_last is the kind and job_res JR_METHOD (9), nothing else. */
+struct leaf_pw leaf_job_turned_away(struct leaf_pw pw, uint8_t kind);
+
+/* The source's pw_job_end. Where a job runs none does any longer, job_res is `res`, the ranges and
+ * automatic marks are those noted at its start, and cal_req is as `on`; else nothing changes. `used`
+ * stays until the next start. */
+struct leaf_pw leaf_job_end(struct leaf_pw pw, uint8_t res);
+
+/* The meter after a frame, the mark (as of a start) where the next step has begun, and how many ready
+ * frames the job has used, this one included, also where it has ended the job. */
+struct leaf_polled {
+    struct leaf_pw pw;
+    struct leaf_stamp mark;
+    uint8_t used;
+};
+
+/* What one frame does to the meter in a job, by document 01's rules of the jobs; its time becomes t_poll.
+ * It does not test `on`. The description, the words, barred, parts, powers, tally, over_t0, settings,
+ * phase calibration, comparator and ring come back as they were, and so do the corrections, unless the
+ * job ends with JR_OK (2). */
+struct leaf_polled leaf_job_poll(struct leaf_pw pw, uint64_t now, uint8_t flags, int32_t ad1, int32_t lpf,
+                                 int64_t rms);
 
 /* ---- the values of a meter ---- */
 

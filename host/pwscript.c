@@ -20,6 +20,9 @@
 #include <stdlib.h>
 #include <string.h>
 
+/* The source's number of a phase calibration that has found its steps. */
+enum { CAL_OK = 2 };
+
 /* The meter in force. Before one is made, words of zeros with the mark off are
  * read, as in the oracle. */
 static struct {
@@ -270,6 +273,15 @@ static bool f_zero(const struct word *argument)
     return write_values(leaf_zero_vals());
 }
 
+static bool f_cal_outcome(const struct word *argument)
+{
+    float s;
+    if (!read_float(argument[0], &s))
+        return false;
+    struct leaf_cal_outcome outcome = leaf_cal_outcome(s);
+    return write_outcome(outcome.number == CAL_OK, outcome.number, outcome.steps);
+}
+
 /* The served functions: name, number of arguments, and the handler, which
  * writes the answer, or writes nothing and returns false. */
 static const struct {
@@ -307,6 +319,7 @@ static const struct {
     {"bt_mode", 2, f_bt_mode},
     {"vals", 12, f_vals},
     {"zero", 0, f_zero},
+    {"cal_outcome", 1, f_cal_outcome},
 };
 
 /* ---- commands: the first word of a line ---- */

@@ -279,6 +279,12 @@ bool write_found(bool found, uint8_t code)
     return true;
 }
 
+bool write_outcome(bool found, uint8_t number, int8_t steps)
+{
+    printf("= %s %d\n", found ? "ok" : "err", found ? steps : number);
+    return true;
+}
+
 bool write_energy(bool fits, int64_t mj, float frac)
 {
     if (fits) {

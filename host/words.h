@@ -67,6 +67,9 @@ bool write_pair(uint8_t a, uint8_t b);
 /* Two hex digits, or `none` where nothing was found. */
 bool write_found(bool found, uint8_t code);
 
+/* `ok` and the steps where they were found, else `err` and the number that says why not. */
+bool write_outcome(bool found, uint8_t number, int8_t steps);
+
 /* Millijoules and the fraction, or `full` where an addition did not fit. */
 bool write_energy(bool fits, int64_t mj, float frac);
 

@@ -26,7 +26,7 @@ plain_meter() {
 # served_lines SEED LINES: that many lines, from `pwgen funcs SEED`: those of served functions, and every
 # `meter` line between them, which counts as a line. The first line makes a plain meter, since the one
 # that pwgen starts with may be refused, and `f v_gain` asks for a meter; the second is `f zero`, which has
-# no argument and is not drawn. pwgen is asked for twice as many lines, since it draws other functions as
+# no argument and is not drawn. pwgen is asked for twice as many lines, since it may draw other functions as
 # well.
 served_lines() {
     "$oracle_folder/pwgen" funcs "$1" $((2 * $2 + 1000)) | awk -v lines="$2" -v meter="$(plain_meter)" '

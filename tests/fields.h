@@ -182,6 +182,12 @@ static inline void put_value(const struct field *f, uint64_t value)
         printf(" %" PRIu64, value);
 }
 
+/* A time counts only where it is set. */
+static inline bool same_stamp(struct leaf_stamp a, struct leaf_stamp b)
+{
+    return a.set == b.set && (!a.set || a.at == b.at);
+}
+
 /* How many values two records of a table differ in. The first `most` of them are shown, each with
  * `what`, the key, the index, the place among the key's values, the value expected and the one got. */
 static inline size_t differences_in(const struct field *table, size_t length, const void *expected,

@@ -1,6 +1,7 @@
-/* figure_lines SEED LINES: random lines of the comparison's protocol for the functions of module 3. One time in
- * four a float is one at which a rule changes, infinities and NaN among them, and one time in four it has any
- * bits. The same seed gives the same lines. */
+/* figure_lines SEED LINES: random lines of the comparison's protocol for the functions of module 3 and for the
+ * outcome of a phase calibration. One time in four a float is one at which a rule changes, infinities and NaN
+ * among them, and one time in four it has any bits; of the outcome's every second one is at or near a bound. The
+ * same seed gives the same lines. */
 #include "floats.h"
 #include "lines.h"
 
@@ -30,9 +31,30 @@ static int64_t some_count(uint64_t *state)
     }
 }
 
+/* Steps of a phase calibration: a half, at which the whole steps change, or 127.49, or one of the next three
+ * floats on either side; a step of the span; or any float. */
+static float some_steps(uint64_t *state)
+{
+    uint64_t r = next(state);
+    uint32_t sign = (uint32_t)(r >> 8 & 1) << 31, beside = (uint32_t)(r >> 16 & 0xFF) % 7 - 3;
+    switch (r & 7) {
+    case 0:
+    case 1:
+    case 2:
+        return float_of((bits32((float)(r >> 24 & 0x7F) + 0.5f) + beside) | sign);
+    case 3:
+        return float_of((bits32(127.49f) + beside) | sign);
+    case 4:
+    case 5:
+        return ((float)(r >> 32) * 0x1p-31f - 1.0f) * 130.0f;
+    default:
+        return some_float(state, 8);
+    }
+}
+
 static void put_line(uint64_t *state)
 {
-    switch (next(state) % 5) {
+    switch (next(state) % 6) {
     case 0:
         printf("f totals");
         put_floats(state, 6, 8);
@@ -50,9 +72,12 @@ static void put_line(uint64_t *state)
         put_floats(state, 1, 0);
         put_floats(state, 1, 16);
         break;
-    default:
+    case 4:
         printf("f acc_wh %" PRId64, some_count(state));
         put_floats(state, 1, 0);
+        break;
+    default:
+        printf("f cal_outcome %08" PRIx32, bits32(some_steps(state)));
     }
     putchar('\n');
 }

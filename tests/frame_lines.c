@@ -1,11 +1,11 @@
-/* frame_lines SEED CALLS: a random script of so many calls for the comparison of frames. The same
- * seed gives the same script.
+/* frame_lines SEED CALLS: a random script of so many calls for the comparison of frames and jobs. The
+ * same seed gives the same script.
  *
  * It sends what steady physical signals seldom reach: zero and gain jobs that end well, so that
- * zeros and gains are stored, ranges set by hand on the mA and uA shunts, codes at the limits of
- * the formats and of what is turned down, and values just at the limit of a range; settings of every
- * kind, signals about the floors of the AC parts, and gaps of every length between frames. It does
- * not know what state the meter is in. */
+ * zeros and gains are stored, and jobs and phase calibrations that end in every other way; ranges set
+ * by hand on the mA and uA shunts, codes at the limits of the formats and of what is turned down, and
+ * values just at the limit of a range; settings of every kind, signals about the floors of the AC
+ * parts, and gaps of every length between frames. It does not know what state the meter is in. */
 #include "bits.h"
 
 #include <inttypes.h>
@@ -31,6 +31,13 @@ static uint64_t below(uint64_t n)
 static bool chance(unsigned percent)
 {
     return below(100) < percent;
+}
+
+/* Each number below n in turn, so that none is left out for long; the first is random. */
+static uint64_t in_turn(uint64_t *turn, uint64_t n)
+{
+    *turn += *turn == 0 ? 1 + below(n) : 1;
+    return *turn % n;
 }
 
 /* From -size to size. */
@@ -183,27 +190,169 @@ static void put_frames(enum signal kind, uint64_t count)
 
 /* ---- jobs ---- */
 
+/* A frame for a job whose step waits for AD1, or for RMS and LPF: with these flags alone or with all.
+ * Now and then one that is not ready comes before it, with codes of any kind. */
+static void put_job_frame(bool of_ad1, int64_t ad1, int64_t lpf, int64_t rms)
+{
+    static const uint8_t not_rms_lpf[] = {0x00, 0x04, 0x08, 0x0C, 0x10, 0x14};
+    if (chance(3))
+        put_frame(of_ad1 ? RMS_LPF : not_rms_lpf[below(6)], some_code(23), some_code(18), some_code(37));
+    put_frame(chance(70) ? AD1 | RMS_LPF : of_ad1 ? AD1 : RMS_LPF, ad1, lpf, rms);
+}
+
+/* Frame number k of a zero job: four to a step, of which the first is dropped; steps 6 to 11 wait for AD1. */
+static bool is_of_ad1(unsigned k)
+{
+    return k / 4 >= 6 && k / 4 < 12;
+}
+
+/* So many frames of a zero job, about these zeros, with noise or without. A dropped one may have any codes. */
+static void put_zero_frames(int64_t lpf, int64_t ad1, bool noise, unsigned frames)
+{
+    for (unsigned k = 0; k < frames; k++) {
+        bool any = k % 4 == 0 && chance(20);
+        put_job_frame(is_of_ad1(k), any ? some_code(23) : ad1 + (noise ? around(900) : 0),
+                      any ? some_code(18) : lpf + (noise ? around(400) : 0),
+                      any ? some_code(37) : (int64_t)below(150000));
+    }
+}
+
 /* Zeros within 1900 codes, of AD1 within 9900: never too far from other such zeros. */
 static void put_zero_job(unsigned frames)
 {
     int64_t lpf = around(1500), ad1 = around(9000);
     put("zero %" PRIu64, later());
-    for (unsigned k = 0; k < frames; k++)
-        put_frame(AD1 | RMS_LPF, ad1 + around(900), lpf + around(400), (int64_t)below(150000));
+    put_zero_frames(lpf, ad1, true, frames);
 }
 
-/* A DC or an AC voltage of 20 to 60 % of the range, alike in the V channel and in the reference. */
-static void put_gain_job(void)
+/* A reading that is `beyond` the limit, by the root or by its distance from these zeros, to either side. */
+static void put_zero_reading(int64_t lpf, int64_t ad1, unsigned k, bool root, int64_t side, int64_t beyond)
 {
-    uint64_t vr = below(4);
-    float volts = between(0.2f, 0.6f) * v_lim[vr], code = volts / (kv[vr] * 1.25f) * 262144.0f;
-    float ad1 = volts / (kv[vr] * 1.25f / 0.9f) * 8388608.0f;
-    bool dc = chance(50);
+    put_job_frame(is_of_ad1(k), ad1 + side * (20000 + beyond), root ? lpf : lpf + side * (4000 + beyond),
+                  root ? 160000 + beyond : 0);
+}
+
+/* A zero job over the zeros that are stored, which ends in some step: after a reading at a limit, which is
+ * counted, by one just beyond it, or further off. */
+static void put_zero_signal(int64_t lpf, int64_t ad1)
+{
+    static uint64_t turn;
+    uint64_t kind = in_turn(&turn, 4), step = kind == 0 ? 12 : kind == 1 ? 6 + below(6) : below(6);
+    unsigned at = (unsigned)(4 * step + 1 + below(2));
+    int64_t side = chance(70) == (lpf < 0) ? 1 : -1;
+    bool root = kind == 2;
+    put("zero %" PRIu64, later());
+    put_zero_frames(lpf, ad1, false, at);
+    put_zero_reading(lpf, ad1, at, root, side, 0);
+    put_zero_reading(lpf, ad1, at + 1, root, side, chance(60) ? 1 : 1 + (int64_t)below(2000));
+    put_zero_frames(lpf, ad1, false, (unsigned)below(3));
+}
+
+/* Zeros nearly as far out as a first job may find them; then jobs that a signal ends, and one that goes on
+ * from there by as much again, so that AD1's zeros are held to 16 bits. */
+static void put_zeros(void)
+{
+    int64_t side = chance(50) ? 1 : -1;
+    int64_t lpf = side * (3000 + (int64_t)below(1001)), ad1 = side * (16500 + (int64_t)below(3501));
+    static uint64_t turn;
+    put("zero %" PRIu64, later());
+    put_zero_frames(lpf, ad1, false, 52);
+    for (uint64_t k = below(6); k > 0; k--)
+        put_zero_signal(lpf, ad1);
+    if (in_turn(&turn, 3) == 0) {
+        put("zero %" PRIu64, later());
+        put_zero_frames(2 * lpf - 400 * side, 2 * ad1 - 900 * side, true, 52);
+    }
+}
+
+/* One round of a gain job: its DC or AC voltage, of the other kind what is beside it, both as parts of the range;
+ * and the reference as a part of the voltage. */
+struct round {
+    float level;
+    float beside;
+    float ratio;
+};
+
+static void put_gain_rounds(uint64_t vr, bool dc, const struct round rounds[2])
+{
+    float full = v_lim[vr] / (kv[vr] * 1.25f) * 262144.0f;
+    float full_ad1 = v_lim[vr] / (kv[vr] * 1.25f / 0.9f) * 8388608.0f;
+    unsigned length = dc ? 8 : 11;
     put("ranges %" PRIu64 " %" PRIu64 " k", later(), vr);
     put("gain %" PRIu64, later());
-    for (int k = 0; k < (dc ? 16 : 22); k++)
-        put_frame(AD1 | RMS_LPF, (int64_t)ad1, dc ? (int64_t)code : 0,
-                  dc ? 0 : (int64_t)code * (int64_t)code);
+    for (unsigned k = 0; k < 2 * length; k++) {
+        struct round r = rounds[k / length];
+        bool reference = k % length >= 4;
+        int64_t code = (int64_t)(r.level * full * (reference ? r.ratio : 1.0f)), other = (int64_t)(r.beside * full);
+        int64_t ac = dc ? other : code;
+        put_job_frame(dc && reference, (int64_t)(r.level * r.ratio * full_ad1), dc ? code : other, ac * ac);
+    }
+}
+
+/* A DC or an AC voltage of 20 to 60 % of the range, alike in the V channel and in the reference; seldom there is no
+ * reference. */
+static void put_gain_job(void)
+{
+    struct round r = {between(0.2f, 0.6f), 0.0f, chance(10) ? 0.0f : 1.0f};
+    put_gain_rounds(below(4), chance(50), (struct round[]){r, r});
+}
+
+/* The voltage is not as it should be: too small or too large, at first or later; with too high a peak; not steady;
+ * with as much of the other kind; later with more of the other kind, up to too high a peak. */
+static void spoil_voltage(uint64_t how, bool late, bool dc, float sign, struct round r[2])
+{
+    switch (how) {
+    case 0:
+        r[late].level = r[1].level = sign * between(0.05f, 0.102f);
+        break;
+    case 1:
+        r[late].level = r[1].level = sign * (dc ? between(0.99f, 1.1f) : between(0.69f, 0.9f));
+        break;
+    case 2:
+        r[0].level = r[1].level = sign * between(0.5f, 0.6f);
+        r[late].beside = between(0.35f, 0.45f);
+        break;
+    case 3:
+        r[1].level *= chance(50) ? 1.01f : 0.99f;
+        break;
+    case 4:
+        r[0].level = r[1].level = r[0].beside = between(0.2f, 0.4f);
+        break;
+    default:
+        r[0].level = r[1].level = sign * between(0.2f, 0.3f);
+        r[1].beside = between(0.32f, 0.45f);
+        if (late)
+            r[1] = (struct round){sign * between(0.02f, 0.09f), dc ? 0.9f : 1.2f, r[1].ratio};
+    }
+}
+
+/* The reference is not steady, or the gain out of its range. */
+static void spoil_reference(bool steady, bool low, struct round r[2])
+{
+    if (!steady)
+        r[1].ratio *= low ? 0.99f : 1.01f;
+    else
+        r[0].ratio = r[1].ratio = low ? between(0.6f, 0.9f) : between(1.1f, 1.3f);
+}
+
+/* Such a job in which one thing is not as it should be; or there is no AC reference; or nothing is wrong, and the gain
+ * is near an end or the voltage below zero. */
+static void put_gain_case(void)
+{
+    static uint64_t turn;
+    uint64_t kind = in_turn(&turn, 48), how = kind % 12;
+    bool dc = kind / 12 % 2 == 0, late = kind / 24 == 0;
+    float sign = dc && chance(60) ? -1.0f : 1.0f, level = between(0.2f, 0.6f);
+    float ratio = chance(30) ? (chance(50) ? 0.901f : 1.099f) : between(0.92f, 1.08f);
+    struct round r[2] = {{sign * level, 0.0f, ratio}, {sign * level, 0.0f, ratio}}, none = {level, 0.0f, 0.0f};
+    if (how < 6)
+        spoil_voltage(how, late, dc, sign, r);
+    else if (how < 8)
+        spoil_reference(how == 6, late, r);
+    if (how < 10)
+        put_gain_rounds(below(4), dc, r);
+    else
+        put_gain_rounds(below(4), false, (struct round[]){none, none});
 }
 
 /* ---- orders ---- */
@@ -349,30 +498,74 @@ struct codes {
     int64_t i_dc;
 };
 
-/* Frames after an apply that keeps nothing, if none is turned down and no range changes: one of XY, then
- * three each of YY, XY, XX and XY. */
-static void put_cycle(struct codes c, unsigned count)
+/* Frames after an apply that keeps nothing, from number `from` on, if none is turned down and no range
+ * changes: one of XY, then three each of YY, XY, XX and XY. */
+static void put_cycle_from(struct codes c, unsigned from, unsigned count)
 {
-    for (unsigned k = 0; k < count; k++) {
+    for (unsigned k = from; k < from + count; k++) {
         unsigned phase = (k + 2) / 3 % 4;
         put_frame(AD1 | RMS_LPF, 32 * c.i_dc, phase == 1 ? c.v_dc : c.i_dc,
                   phase == 1 ? c.v * c.v : phase == 3 ? c.i * c.i : c.p);
     }
 }
 
-/* A phase calibration of a meter that is on, with frames for two rounds of eight results of XY. By the power
- * factor the second round is come to or not. */
-static void put_phase(void)
+static void put_cycle(struct codes c, unsigned count)
+{
+    put_cycle_from(c, 0, count);
+}
+
+/* A phase calibration of a meter that is on, with these power factors in its two rounds of eight results of XY;
+ * the eighth is frame number 54. */
+static void put_phase_rounds(float first, float second)
 {
     struct codes c = {.v = 3000 + (int64_t)below(9000), .i = 3000 + (int64_t)below(9000), .v_dc = 0, .i_dc = 0};
-    c.p = (int64_t)((float)(c.v * c.i) * between(-0.5f, 0.5f));
+    put("reapply %" PRIu64, later());
+    put("phase");
+    c.p = (int64_t)((float)(c.v * c.i) * first);
+    put_cycle_from(c, 0, 55);
+    c.p = (int64_t)((float)(c.v * c.i) * second);
+    put_cycle_from(c, 55, 53);
+    put("reapply %" PRIu64, later());
+}
+
+/* One from step `from`, whose null is at step `to`. */
+static void put_null(float from, float to)
+{
+    float first = between(0.05f, 0.3f) * (chance(50) ? 1.0f : -1.0f), further = from > 79.0f ? -48.0f : 48.0f;
+    put_phase_rounds(first, first * (1.0f + further / (from - to)));
+}
+
+/* Phase calibrations of a meter that is on, from step 0: with a power that does not follow the step, so that by its
+ * factor the second round is come to or not; with a null within the steps, to either side, or beyond; and with one
+ * above step 79 or just there, with one from there behind it. */
+static void put_phase(void)
+{
+    static uint64_t turn;
+    float sign = chance(50) ? 1.0f : -1.0f, to = chance(30) ? 80.0f : roundf(between(78.0f, 127.0f));
+    float factor = sign * between(0.01f, 0.31f);
     put("coupling %" PRIu64 " %d", later(), chance(50) ? 0 : 3);
     put("method %" PRIu64 " 0", later());
     put("ranges %" PRIu64 " %" PRIu64 " %" PRIu64, later(), below(4), 4 + below(2));
-    put("reapply %" PRIu64, later());
-    put("phase");
-    put_cycle(c, 108);
-    put("reapply %" PRIu64, later());
+    switch (in_turn(&turn, 7)) {
+    case 0:
+        put_phase_rounds(factor, factor);
+        break;
+    case 1:
+        put_phase_rounds(sign * between(0.33f, 1.0f), 0.0f);
+        break;
+    case 2:
+        put_null(0.0f, between(1.0f, 127.0f));
+        break;
+    case 3:
+        put_null(0.0f, -between(1.0f, 127.0f));
+        break;
+    case 4:
+        put_null(0.0f, sign * between(127.0f, 200.0f));
+        break;
+    default:
+        put_null(0.0f, to);
+        put_null(to, between(-190.0f, 190.0f));
+    }
 }
 
 /* A code below, at or above the AC floor, 0.5 % of the range, which is 20,972 codes for the highest range
@@ -407,13 +600,33 @@ static void put_later_frames(struct codes c)
     }
 }
 
+/* Each order that ends a job. */
+static void put_abort(void)
+{
+    switch (below(7)) {
+    case 0:
+        put("method %" PRIu64 " %d", later(), chance(30));
+        break;
+    case 1:
+        put("coupling %" PRIu64 " %d", later(), couplings[below(3)]);
+        break;
+    case 2:
+        put(chance(50) ? "ranges %" PRIu64 " k k" : "ranges %" PRIu64 " a 4", later());
+        break;
+    default:
+        put(chance(50) ? "on %" PRIu64 : "off %" PRIu64, later());
+    }
+}
+
 /* A job that is begun over values and not gone through: its ranges are shown with them. */
 static void put_job_begun(void)
 {
     put(chance(70) ? "zero %" PRIu64 : "gain %" PRIu64, later());
+    if (chance(90))
+        put("phase");
     for (uint64_t k = below(30); k > 0; k--)
         put_frame(AD1 | RMS_LPF, around(900), around(400), (int64_t)below(150000));
-    put(chance(50) ? "on %" PRIu64 : "off %" PRIu64, later());
+    put_abort();
 }
 
 /* A meter without words that is on, with its over ratio. */
@@ -525,25 +738,49 @@ static void put_meter_and_calls(void)
     }
 }
 
+/* Jobs of a meter that is on, with some words or without. */
+static void put_job_cases(void)
+{
+    static uint64_t turn;
+    uint64_t kind = in_turn(&turn, 5);
+    const float plain[] = {10.0f, 1.0f, 0.01f, 0.0005f, 4.75e-5f, 1.03f};
+    put_meter_on(1.03f, couplings[below(3)], false, below(4), below(6));
+    if (kind < 2) {
+        put_zeros();
+        return;
+    }
+    if (kind < 4) {
+        put_meter(plain, chance(40), true, true);
+        put("on %" PRIu64, later());
+    }
+    if (chance(20))
+        put_zero_job(52);
+    for (uint64_t k = 3 + below(5); k > 0; k--)
+        put_gain_case();
+}
+
+static void put_phase_cases(void)
+{
+    put_meter_on(1.03f, chance(50) ? 0 : 3, false, 3, 5);
+    put_phase();
+}
+
+/* Each part so many times among 84, one kind after another: 31 has no factor with 84 in common. */
+enum { PARTS = 84 };
 static void put_part(void)
 {
-    uint64_t part = below(20);
-    if (part < 2) {
-        put_meter_and_calls();
-    } else if (part < 7) {
-        put_values();
-    } else if (part == 7) {
-        put_current_watched();
-    } else if (part < 10) {
-        put_large();
-    } else if (part == 10) {
-        put_limit_passed();
-    } else if (part == 11 && chance(60)) {
-        put_meter_on(1.03f, 0, false, 3, 5);
-        put_phase();
-    } else {
-        put_at_limit();
-    }
+    static const struct {
+        unsigned often;
+        void (*put)(void);
+    } parts[] = {
+        {6, put_meter_and_calls}, {18, put_values}, {4, put_current_watched}, {5, put_large}, {3, put_limit_passed},
+        {9, put_phase_cases}, {15, put_job_cases}, {24, put_at_limit},
+    };
+    static uint64_t turn;
+    uint64_t r = in_turn(&turn, PARTS) * 31 % PARTS, k = 0;
+    for (; r >= parts[k].often; k++)
+        r -= parts[k].often;
+    parts[k].put();
 }
 
 int main(int argc, char **argv)

@@ -1,15 +1,18 @@
-/* frames LEAST: what leaf_frame and leaf_apply make of each call of a transcript (transcript.h), on
- * standard input, beside what the published Rust made of it; and after each call what is read off
- * the meter (values.h).
+/* frames LEAST [JOBS]: what leaf_frame, leaf_apply and leaf_job_end make of each call of a transcript
+ * (transcript.h), on standard input, beside what the published Rust made of it; what the leaves of the
+ * jobs and of the phase calibration make of it (jobs.h); and after each call what is read off the meter
+ * (values.h).
  *
  * Each accepted frame outside a job is given to leaf_frame with the meter of the dump before it.
  * What the accounting step may change is compared with what was handed in, and all else with the
- * dump after the frame. Each order that is an apply is given to leaf_apply with what it sets, and
- * each meter made is compared with leaf_pw_new. Codes are decoded here, by document 01. The status
- * is 0 where nothing differs and each of the cases below, and of values.c, was met LEAST times or
- * more. */
+ * dump after the frame; the phase calibration's part of that step follows (jobs.h). Each order that
+ * ends a job or is an apply is given to leaf_job_end, and with what it sets to leaf_apply where it
+ * applies. Each meter made is compared with leaf_pw_new. The status is 0 where nothing differs and
+ * each of the cases below and of values.c was met LEAST times or more, and each of jobs.c JOBS times,
+ * or LEAST times where that is not given. */
 #include "cases.h"
 #include "fields.h"
+#include "jobs.h"
 #include "transcript.h"
 #include "values.h"
 
@@ -25,7 +28,8 @@ enum met {
     DOWN_XY, DOWN_SQUARE, DOWN_ALT, V_UP, V_DOWN, V_BEFORE_AD1, I_UP, I_DOWN, I_HOP, I_TRIP, I_HELD,
     ALT_TO_V, ALT_TO_I, WINDOW, WINDOW_OF_I, NO_WINDOW, CAL_COUNTED, CAL_FULL, ZEROS, GAINS, WORDS,
     LONG_AGO, CLOCK_BACK, READINGS, SMOOTHED, METERS, ON, REAPPLY, METHOD, COUPLING, RANGES_V,
-    RANGES_I, RANGES_BOTH, CASES
+    RANGES_I, RANGES_BOTH, OFF, METHOD_OFF, COUPLING_OFF, COUPLING_ALIKE, COUPLING_ABORTED, RANGES_OFF,
+    RANGES_ALIKE, CASES
 };
 static const char *const cases[CASES] = {
     [FRAMES_B] = "method B", [FRAMES_ALT] = "alternating", [FRAMES_DC] = "DC",
@@ -42,10 +46,13 @@ static const char *const cases[CASES] = {
     [LONG_AGO] = "interval held", [CLOCK_BACK] = "clock not forward", [READINGS] = "readings",
     [SMOOTHED] = "smoothed", [METERS] = "meters", [ON] = "on", [REAPPLY] = "re-apply",
     [METHOD] = "method", [COUPLING] = "coupling", [RANGES_V] = "V ranged",
-    [RANGES_I] = "I ranged", [RANGES_BOTH] = "both ranged",
+    [RANGES_I] = "I ranged", [RANGES_BOTH] = "both ranged", [OFF] = "off", [METHOD_OFF] = "method while off",
+    [COUPLING_OFF] = "coupling while off", [COUPLING_ALIKE] = "coupling that does not apply",
+    [COUPLING_ABORTED] = "coupling that applies after an abort", [RANGES_OFF] = "ranges while off",
+    [RANGES_ALIKE] = "ranges that do not apply",
 };
 static uint64_t met[CASES];
-static uint64_t frames, applies, meters, differ, shown;
+static uint64_t frames, orders, meters, differ, shown;
 
 static void count(enum met which, bool was)
 {
@@ -62,10 +69,9 @@ static bool shows(void)
     return shown++ < MOST_SHOWN;
 }
 
-/* A time counts only where it is set. */
 static bool same_mark(struct leaf_stamp expected, struct leaf_stamp got)
 {
-    if (expected.set == got.set && (!got.set || expected.at == got.at))
+    if (same_stamp(expected, got))
         return true;
     if (shows())
         printf("%s: mark is to be %d %" PRIu64 ", is %d %" PRIu64 "\n", what, expected.set,
@@ -80,47 +86,21 @@ static bool same_flag(const char *name, bool expected, bool got)
     return expected == got;
 }
 
+/* How many values of a meter may be shown. */
+static size_t most_shown(void)
+{
+    return differ < MOST_SHOWN ? MOST_SHOWN : 0;
+}
+
 static void compare(const struct leaf_outcome *expected, const struct leaf_outcome *got)
 {
-    size_t most = differ < MOST_SHOWN ? MOST_SHOWN : 0;
-    size_t values = differences(&expected->pw, &got->pw, what, most);
+    size_t values = differences(&expected->pw, &got->pw, what, most_shown());
     bool mark = same_mark(expected->mark, got->mark);
     bool to_values = same_flag("to_values", expected->to_values, got->to_values);
     differ += values == 0 && mark && to_values ? 0 : 1;
 }
 
 /* ---- frames ---- */
-
-struct frame {
-    uint64_t now;
-    uint8_t flags;
-    int32_t ad1;
-    int32_t lpf;
-    int64_t rms;
-};
-
-/* Little-endian two's complement of so many bits, higher ones ignored. */
-static int64_t code_of(const uint8_t *bytes, size_t length, unsigned bits)
-{
-    uint64_t sum = 0;
-    for (size_t k = length; k > 0; k--)
-        sum = sum << 8 | bytes[k - 1];
-    int64_t end = INT64_C(1) << bits, low = (int64_t)(sum % (uint64_t)end);
-    return low < end / 2 ? low : low - end;
-}
-
-static struct frame frame_of(const struct call *c)
-{
-    struct frame f;
-    uint8_t bytes[14];
-    if (c->count != 4 || !read_u64(c->words[1], &f.now) || !read_bytes(c->words[2], &f.flags, 1)
-        || !read_bytes(c->words[3], bytes, 14))
-        stop_at(c->line, "no accepted frame");
-    f.ad1 = (int32_t)code_of(bytes, 3, 24);
-    f.lpf = (int32_t)code_of(bytes + 6, 3, 19);
-    f.rms = code_of(bytes + 9, 5, 38);
-    return f;
-}
 
 static bool has(uint8_t flags, uint8_t bits)
 {
@@ -167,13 +147,12 @@ static struct leaf_outcome expected_frame(const struct call *c, uint8_t flags)
     return e;
 }
 
-/* The dump has the mean of the eight in cal_pa where the first round has ended well; else their sum
- * is nowhere. */
-static void restore_eight(const struct call *c, struct leaf_pw *expected, const struct leaf_pw *got)
+/* Of the eighth result the dump shows only what the accounting step made of it, which is compared by
+ * check_account. */
+static void restore_eight(struct leaf_pw *expected, const struct leaf_pw *got)
 {
-    bool kept = c->before.phase_cal.cal == 1 && c->after.phase_cal.cal == 2;
     expected->phase_cal.cal_n = 8;
-    expected->phase_cal.cal_acc = kept ? 8.0f * c->after.phase_cal.cal_pa : got->phase_cal.cal_acc;
+    expected->phase_cal.cal_acc = got->phase_cal.cal_acc;
 }
 
 /* Whether a frame that changed no range had a result by which the current's may change. */
@@ -246,8 +225,9 @@ static void check_frame(const struct call *c)
     struct leaf_outcome e = expected_frame(c, f.flags);
     struct leaf_outcome got = leaf_frame(c->before, f.now, f.flags, f.ad1, f.lpf, f.rms);
     if (cal_full(c))
-        restore_eight(c, &e.pw, &got.pw);
+        restore_eight(&e.pw, &got.pw);
     compare(&e, &got);
+    differ += check_account(c, &got.pw, what, most_shown()) == 0 ? 0 : 1;
     bool reading = got.to_values && is_complete(&got.pw);
     differ += same_flag("a reading", c->reading, reading) ? 0 : 1;
     frames++;
@@ -260,10 +240,10 @@ static void check_frame(const struct call *c)
     count_results(c, f.flags);
 }
 
-/* ---- orders that are an apply ---- */
+/* ---- orders that end a job or are an apply ---- */
 
-/* What an order sets before it applies, in `pw`; and in `keep` 2 or 4, where the voltage's or the
- * current's parts are kept. False where it does not apply. */
+/* What an order sets before it applies, in `pw`, where no job runs any longer; and in `keep` 2 or 4,
+ * where the voltage's or the current's parts are kept. False where it does not apply. */
 typedef bool order(const struct call *c, struct leaf_pw *pw, uint8_t *keep);
 
 static bool on(const struct call *c, struct leaf_pw *pw, uint8_t *keep)
@@ -273,6 +253,14 @@ static bool on(const struct call *c, struct leaf_pw *pw, uint8_t *keep)
     pw->mode.dc = pw->mode.coup == 1;
     count(ON, true);
     return true;
+}
+
+static bool off(const struct call *c, struct leaf_pw *pw, uint8_t *keep)
+{
+    (void)c, (void)keep;
+    pw->mode.on = false;
+    count(OFF, true);
+    return false;
 }
 
 static bool reapply(const struct call *c, struct leaf_pw *pw, uint8_t *keep)
@@ -287,7 +275,7 @@ static bool method(const struct call *c, struct leaf_pw *pw, uint8_t *keep)
 {
     (void)keep;
     pw->mode.alt = word_is(c->words[2], "1");
-    count(METHOD, pw->mode.on);
+    count(pw->mode.on ? METHOD : METHOD_OFF, true);
     return pw->mode.on;
 }
 
@@ -299,11 +287,13 @@ static bool coupling(const struct call *c, struct leaf_pw *pw, uint8_t *keep)
     if (!read_u8(c->words[2], &n))
         stop_at(c->line, "no coupling");
     pw->mode.coup = (n & 3) == 2 ? 0 : n & 3;
-    bool dc = pw->mode.coup == 1;
-    if (!pw->mode.on || (dc == pw->mode.dc && pw->job.job_res != ABORTED))
+    bool dc = pw->mode.coup == 1, alike = dc == pw->mode.dc, aborted = pw->job.job_res == ABORTED;
+    count(COUPLING_OFF, !pw->mode.on);
+    count(COUPLING_ALIKE, pw->mode.on && alike && !aborted);
+    if (!pw->mode.on || (alike && !aborted))
         return false;
     pw->mode.dc = dc;
-    count(COUPLING, true);
+    count(alike ? COUPLING_ABORTED : COUPLING, true);
     return true;
 }
 
@@ -329,6 +319,8 @@ static bool ranges(const struct call *c, struct leaf_pw *pw, uint8_t *keep)
     if (range(c, c->words[3], 5, &r->ik, &r->i_auto))
         pw->barred = 0;
     bool v = r->vr != was.vr, i = r->ik != was.ik;
+    count(RANGES_OFF, !pw->mode.on);
+    count(RANGES_ALIKE, pw->mode.on && !v && !i);
     if (!pw->mode.on || (!v && !i))
         return false;
     if (!v || !i)
@@ -337,20 +329,18 @@ static bool ranges(const struct call *c, struct leaf_pw *pw, uint8_t *keep)
     return true;
 }
 
-/* Where nothing is kept, any number but 2 and 4 says so. */
+/* A job that runs is aborted (a re-apply is refused there). Where nothing is kept, any number but 2 and 4
+ * says so. The frames that the job has used stay with the meter, and are in a dump in a job only. */
 static void check_order(const struct call *c, order *sets)
 {
     static const uint8_t none[] = {0, 1, 3, 5, 6, 7, 8, 255};
-    struct leaf_pw pw = c->before;
-    uint64_t now;
     uint8_t keep = none[c->line % sizeof none];
-    if (c->before.job.job != 0 || !sets(c, &pw, &keep))
-        return;
-    if (!read_u64(c->words[1], &now))
-        stop_at(c->line, "no time");
-    struct leaf_outcome e = {c->after, c->mark, false}, got = leaf_apply(pw, keep, now);
+    struct leaf_outcome e = {c->after, c->mark, false}, got = {leaf_job_end(c->before, ABORTED), {false, 0}, false};
+    e.pw.job.used = c->before.job.used;
+    if (sets(c, &got.pw, &keep))
+        got = leaf_apply(got.pw, keep, time_of(c));
     compare(&e, &got);
-    applies++;
+    orders++;
 }
 
 static void check_meter(const struct call *c)
@@ -367,12 +357,13 @@ static void check(const struct call *c)
         const char *name;
         size_t count;
         order *sets;
-    } orders[] = {
-        {"on", 2, on}, {"reapply", 2, reapply}, {"method", 3, method},
+    } kinds[] = {
+        {"on", 2, on}, {"off", 2, off}, {"reapply", 2, reapply}, {"method", 3, method},
         {"coupling", 3, coupling}, {"ranges", 4, ranges},
     };
     snprintf(what, sizeof what, "line %zu,%.40s", c->line, c->text);
-    differ += check_values(c, what, differ < MOST_SHOWN ? MOST_SHOWN : 0) == 0 ? 0 : 1;
+    differ += check_values(c, what, most_shown()) == 0 ? 0 : 1;
+    differ += check_jobs(c, what, most_shown()) == 0 ? 0 : 1;
     meters++;
     if (c->refusal != 0)
         return;
@@ -380,24 +371,24 @@ static void check(const struct call *c)
         check_meter(c);
     else if (word_is(c->words[0], "frame"))
         check_frame(c);
-    for (size_t k = 0; k < sizeof orders / sizeof orders[0]; k++)
-        if (word_is(c->words[0], orders[k].name) && c->count == orders[k].count)
-            check_order(c, orders[k].sets);
+    for (size_t k = 0; k < sizeof kinds / sizeof kinds[0]; k++)
+        if (word_is(c->words[0], kinds[k].name) && c->count == kinds[k].count)
+            check_order(c, kinds[k].sets);
 }
 
 int main(int argc, char **argv)
 {
     static struct call c;
-    if (argc != 2)
+    if (argc != 2 && argc != 3)
         return 2;
     while (next_call(stdin, &c))
         check(&c);
     free(c.text);
-    uint64_t least = strtoull(argv[1], NULL, 10);
-    bool calls = put_cases(cases, met, CASES, least), values = put_value_cases(least);
-    printf("frames: %" PRIu64 " frames (%" PRIu64 " b, %" PRIu64 " alternating, %" PRIu64
-           " DC), %" PRIu64 " applies, and the values of %" PRIu64 " meters %s, %" PRIu64 " differ\n",
-           frames, met[FRAMES_B], met[FRAMES_ALT], met[FRAMES_DC], applies, meters,
+    uint64_t least = strtoull(argv[1], NULL, 10), least_jobs = strtoull(argv[argc - 1], NULL, 10);
+    bool calls = put_cases(cases, met, CASES, least), jobs = put_job_cases(least_jobs), values = put_value_cases(least);
+    printf("frames: %" PRIu64 " frames (%" PRIu64 " b, %" PRIu64 " alternating, %" PRIu64 " DC), %" PRIu64
+           " frames in jobs, %" PRIu64 " orders, and the values of %" PRIu64 " meters %s, %" PRIu64 " differ\n",
+           frames, met[FRAMES_B], met[FRAMES_ALT], met[FRAMES_DC], frames_in_jobs(), orders, meters,
            differ == 0 ? "agree" : "compared", differ);
-    return differ == 0 && calls && values && frames > 0 ? 0 : 1;
+    return differ == 0 && calls && jobs && values && frames > 0 ? 0 : 1;
 }

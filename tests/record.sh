@@ -30,8 +30,8 @@ origin="tests/record.sh $seed $lines: pwgen funcs, seed $seed, $lines lines of t
 record functions tests/recorded/functions.script "$origin"
 record limits tests/limits.script "tests/record.sh: tests/limits.script, $(questions tests/limits.script | wc -l) lines"
 
-# The frames: seeds by which each case of tests/frames.c and tests/values.c is met, whatever SEED is.
-signals_seed=12 signals=600 limits_seeds=(1487 1431 1772 1898 1057 91 820 913 1363) limits=150
+# The frames: seeds by which each case of tests/frames.c, tests/jobs.c and tests/values.c is met, whatever SEED is.
+signals_seed=7 signals=600 limits_seeds=(1757 362 1216 2394 1656 550 1305 338 1287 713 2045) limits=200
 make --no-print-directory build/frame_lines || fail "frame_lines does not build"
 frame_script "$signals_seed" "$signals" "$limits" "${limits_seeds[@]}" > "$work/script" || fail "there is no script of frames"
 transcript "$work/script" > "$work/transcript" || fail "the oracle did not answer all of the frames"

@@ -85,7 +85,7 @@ done < tests/served
 
 # Lines of the protocol that are not served yet: a name that comes to tests/served leaves this list.
 for line in \
-    'f cal_outcome 42fefae1' 'f coup_name 3' 'f ring_text' 'f knobs' 'on 0' 'off 0' 'method 0 1' \
+    'f coup_name 3' 'f ring_text' 'f knobs' 'on 0' 'off 0' 'method 0 1' \
     'coupling 0 1' 'zero 0' 'gain 0' 'reapply 0' 'ranges 0 k a' 'phase' 'ereset' 'run 1' \
     'set 1 3c23d70a 3f000000 423e0000 40c00000 30 0' 'frame 0 1c 0000000000000000000000000000' 'dump' 'dump on' 'hash'; do
     bad "$line"
@@ -164,6 +164,7 @@ spoiled energy_format 3f000000 0
 spoiled p_format 3f800000 3f800000 1
 spoiled no_neg_zero 80000000 3
 spoiled bt_mode 0 3
+spoiled cal_outcome 42fefae1
 spoiled vals 1 1 0 0 0 0 3f800000 3f800000 3f800000 3f800000 3f800000 3f800000
 
 # Each argument in its place; of six answers each in its place.
@@ -217,6 +218,12 @@ good 'f no_neg_zero bf000000 0' '= bf000000'
 good 'f no_neg_zero beffffff +000' '= 00000000'
 good 'f no_neg_zero 80000000 255' '= 80000000'
 good 'f no_neg_zero nan 3' '= nan'
+good 'f cal_outcome 42fefae1' '= ok 127'
+good 'f cal_outcome C2FEFAE1' '= ok -127'
+good 'f cal_outcome 42ff0000' '= err 5'
+good 'f cal_outcome 7f800000' '= err 3'
+good 'f cal_outcome nan' '= err 3'
+good 'f cal_outcome 80000000' '= ok 0'
 good 'f bt_mode 1 0' '= 40'
 good 'f bt_mode 0 +002' '= 24'
 good 'f bt_mode 0 255' '= 32'

@@ -238,7 +238,7 @@ static bool read_answer(struct call *c)
     c->mark.set = !word_is(w[1], "-");
     c->mark.at = 0;
     return read_u8(w[0], &c->refusal) && (!c->mark.set || read_u64(w[1], &c->mark.at))
-           && read_bool(w[3], &c->reading);
+           && read_u8(w[2], &c->used) && read_bool(w[3], &c->reading);
 }
 
 /* The description and the words of a meter that was made. */
@@ -310,4 +310,34 @@ bool next_call(FILE *in, struct call *c)
         check_given(of_shown, c->line);
     }
     return true;
+}
+
+uint64_t time_of(const struct call *c)
+{
+    uint64_t now;
+    if (c->count < 2 || !read_u64(c->words[1], &now))
+        stop_at(c->line, "no time");
+    return now;
+}
+
+/* Little-endian two's complement of so many bits, higher ones ignored. */
+static int64_t code_of(const uint8_t *bytes, size_t length, unsigned bits)
+{
+    uint64_t sum = 0;
+    for (size_t k = length; k > 0; k--)
+        sum = sum << 8 | bytes[k - 1];
+    int64_t end = INT64_C(1) << bits, low = (int64_t)(sum % (uint64_t)end);
+    return low < end / 2 ? low : low - end;
+}
+
+struct frame frame_of(const struct call *c)
+{
+    struct frame f = {.now = time_of(c)};
+    uint8_t bytes[14];
+    if (c->count != 4 || !read_bytes(c->words[2], &f.flags, 1) || !read_bytes(c->words[3], bytes, 14))
+        stop_at(c->line, "no accepted frame");
+    f.ad1 = (int32_t)code_of(bytes, 3, 24);
+    f.lpf = (int32_t)code_of(bytes + 6, 3, 19);
+    f.rms = code_of(bytes + 9, 5, 38);
+    return f;
 }

@@ -25,6 +25,7 @@ struct call {
     size_t count;
     uint8_t refusal;
     struct leaf_stamp mark;
+    uint8_t used;
     bool reading;
     struct leaf_pw before;
     struct leaf_pw after;
@@ -36,6 +37,21 @@ struct call {
 /* The next call; false at the end. A line that is not understood ends the program with status 1,
  * and so does a meter made before each field was dumped. `c` is all zeros before the first. */
 bool next_call(FILE *in, struct call *c);
+
+/* The time of a call that carries one. Other calls end the program with status 1. */
+uint64_t time_of(const struct call *c);
+
+/* A frame: its time, its flags, and its codes, decoded here by document 01. */
+struct frame {
+    uint64_t now;
+    uint8_t flags;
+    int32_t ad1;
+    int32_t lpf;
+    int64_t rms;
+};
+
+/* The frame of a call by which one was accepted. Other calls end the program with status 1. */
+struct frame frame_of(const struct call *c);
 
 /* Ends the program with status 1, and says why. */
 _Noreturn void stop_at(size_t line, const char *why);
