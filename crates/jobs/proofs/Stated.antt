@@ -3,7 +3,7 @@ use mathlib.Core.Path.{_≡_, refl, sym, ap, subst, _∙_}
 use mathlib.Core.Bool.{Bool, true, false, cond}
 use mathlib.Core.Logic.{_⊎_, inl, inr}
 use mathlib.Core.List.{List, [], _∷_, _++_}
-use Prim.Native.Nat.{ℕ, suc, _-_, _%_}
+use Prim.Native.Nat.{ℕ, zero, suc, _-_, _%_}
 use native.Mathlib.Omega.{arith}
 use borrow.Author.Tests.{lt-ltb}
 use lib.Dec.{ltb, eqb}
@@ -21,6 +21,7 @@ use Rattle.state.specs.Counting.{countUp}
 use Rattle.phase.specs.Phase.{calOff}
 use Rattle.steps.specs.declared.place.Kind.{Kind}
 use Rattle.steps.specs.declared.place.Kind.the-variants.{Zero, Gain}
+use Rattle.steps.specs.declared.place.Place.{Place}
 use Rattle.steps.specs.declared.reading.Reading.{Reading}
 use Rattle.steps.specs.declared.verdict.RawVerdict.{RawVerdict}
 use Rattle.steps.specs.declared.verdict.RawVerdict.the-variants.{Small, Big, Fair}
@@ -31,9 +32,9 @@ use Rattle.steps.specs.Reading.{zerosIn, oldOf, readingOf, signal}
 use Rattle.steps.specs.Verdict.{zeroMean, isDc, rawVerdict, meanOf}
 use Rattle.jobs.specs.declared.bench.Bench.{Bench}
 use Rattle.jobs.specs.declared.bench.Served.{Served}
-use Rattle.jobs.specs.With.{withCalReq, withCycle, withSkip}
+use Rattle.jobs.specs.With.{withCalReq, withCycle, withSkip, withJob, withUsed}
 use Rattle.jobs.specs.Bench.{kindIn, placeIn, unmarked, ended, jobEnd, atStep, stepAt, next, begun}
-use Rattle.jobs.specs.Step.{over, zxNoted, zdNoted, zerosStored, zeroDone, byRaw, rawNoted, rawDone, gainStored, byGain, refNoted, verdictIn, judged, refDone, gainDone, stepDone}
+use Rattle.jobs.specs.Step.{endedUnmarked, zxNoted, zdNoted, zerosStored, zeroDone, byRaw, rawNoted, rawDone, gainStored, byGain, refNoted, verdictIn, judged, refDone, gainDone, stepDone}
 use Rattle.jobs.specs.Frame.{summed, counted, servedBy, oneUsed, served, jobFrame}
 use Rattle.jobs.specs.Whole.{benchIn, withBench, jobStarted, jobEnded, jobPolled}
 
@@ -94,15 +95,18 @@ not-ready m now flags f e = rw (e)
 
 -- ---- a frame in a job: the job goes on or has ended
 
--- it goes on: its number, what it noted at its start, its count of ready frames, zeros and gains, and the mode are as they were
+-- what no frame changes: the ranges and marks noted at the start, with the kind and the V range, and the count of ready frames
+abbrev pub Noted : Bench → Bench → Type 0
+Noted t b = (b .job .«job_save» ≡ t .job .«job_save») × (b .job .«job_last» ≡ t .job .«job_last») × (b .job .«job_vr» ≡ t .job .«job_vr») × (b .job .used ≡ t .job .used)
+
+-- it goes on: its number and result, what is noted, zeros and gains, and the mode are as they were
 abbrev pub GoesOn : Bench → Bench → Type 0
-GoesOn t b =
-    (b .job .job ≡ t .job .job) × (b .job .«job_save» ≡ t .job .«job_save») × (b .job .used ≡ t .job .used) × (b .corrections ≡ t .corrections) × (b .mode ≡ t .mode)
+GoesOn t b = (b .job .job ≡ t .job .job) × (b .job .«job_res» ≡ t .job .«job_res») × Noted t b × (b .corrections ≡ t .corrections) × (b .mode ≡ t .mode)
 
 -- it has ended: no job runs, ranges and automatic marks are those noted, the host is to re-apply if the meter is on; zeros and gains are as they were unless it ended well
 abbrev pub HasEnded : Bench → Bench → Type 0
 HasEnded t b =
-    (b .job .job ≡ 0) × (b .ranges ≡ t .job .«job_save») × (b .job .used ≡ t .job .used) × (b .mode ≡ withCalReq (t .mode) (t .mode .on))
+    (b .job .job ≡ 0) × (b .ranges ≡ t .job .«job_save») × Noted t b × (b .mode ≡ withCalReq (t .mode) (t .mode .on))
     × ((b .corrections ≡ t .corrections) ⊎ (b .job .«job_res» ≡ jrOk))
 
 abbrev Goes : Bench → Served → Type 0
@@ -113,30 +117,30 @@ next-goes : (t b : Bench) (now : ℕ) → GoesOn t b → Goes t (next now b)
 unfolding next stepAt
 next-goes t b now g = inl g
 
-over-goes : (t b : Bench) (res : ℕ) → GoesOn t b → Goes t (over res b)
+ended-goes : (t b : Bench) (res : ℕ) → GoesOn t b → Goes t (endedUnmarked res b)
 unfolding ended
-over-goes t b res (j, s, u, c, m) = inr (refl, s, u, rw (m), inl c)
+ended-goes t b res (j, r, n, c, m) = inr (refl, n .0, n, rw (m), inl c)
 
-stored-goes : (t b : Bench) → b .job .«job_save» ≡ t .job .«job_save» → b .job .used ≡ t .job .used → b .mode ≡ t .mode → Goes t (over jrOk b)
+stored-goes : (t b : Bench) → Noted t b → b .mode ≡ t .mode → Goes t (endedUnmarked jrOk b)
 unfolding ended
-stored-goes t b s u m = inr (refl, s, u, rw (m), inr refl)
+stored-goes t b n m = inr (refl, n .0, n, rw (m), inr refl)
 
 raw-goes : (t b : Bench) (now : ℕ) (v : RawVerdict) → GoesOn t b → Goes t (byRaw now v b)
-raw-goes t b now Small g = over-goes t b jrSmall g
-raw-goes t b now Big g = over-goes t b jrBig g
+raw-goes t b now Small g = ended-goes t b jrSmall g
+raw-goes t b now Big g = ended-goes t b jrBig g
 raw-goes t b now Fair g = next-goes t b now g
 
 gain-goes : (t b : Bench) (v : GainVerdict) → GoesOn t b → Goes t (byGain v b)
-gain-goes t b Unstable g = over-goes t b jrUnstable g
-gain-goes t b Outside g = over-goes t b jrRange g
-gain-goes t b (Good x) (j, s, u, c, m) = stored-goes t (gainStored x b) s u m
+gain-goes t b Unstable g = ended-goes t b jrUnstable g
+gain-goes t b Outside g = ended-goes t b jrRange g
+gain-goes t b (Good x) (j, r, n, c, m) = stored-goes t (gainStored x b) n m
 
 module _ (t : Bench) (now : ℕ) where
   zero-done-goes : (z : ℤ) (b : Bench) → GoesOn t b → Goes t (zeroDone now z b)
   unfolding zeroDone
   zero-done-goes z b g =
       either (Goes t) (ltb (b .job .«job_step») 6) (next-goes t (zxNoted z b) now g)
-      (either (Goes t) (ltb (b .job .«job_step») 12) (next-goes t (zdNoted z b) now g) (stored-goes t (zerosStored z b) (g .1) (g .2) (g .4)))
+      (either (Goes t) (ltb (b .job .«job_step») 12) (next-goes t (zdNoted z b) now g) (stored-goes t (zerosStored z b) (g .2) (g .4)))
 
   gain-done-goes : (x y : Float) (b : Bench) → GoesOn t b → Goes t (gainDone now x y b)
   unfolding gainDone rawDone refDone judged
@@ -157,9 +161,9 @@ module _ (t : Bench) (now : ℕ) where
 
   served-goes : (sig : Bool) (r : Reading) (b : Bench) → GoesOn t b → Goes t (servedBy now sig r b)
   unfolding servedBy
-  served-goes sig r b g = either (Goes t) (ltb 0 (b .cycle .skip)) (inl g) (either (Goes t) sig (over-goes t b jrSignal g) (counted-goes r b g))
+  served-goes sig r b g = either (Goes t) (ltb 0 (b .cycle .skip)) (inl g) (either (Goes t) sig (ended-goes t b jrSignal g) (counted-goes r b g))
 
--- a ready frame counts as used. "The ranges and automatic marks found at its start" come back with the frame that ends the job, and no zero or gain changes but by a job that ends well
+-- a ready frame counts as used; "ranges and marks become those noted" with the frame that ends the job; and no zero or gain changes but by a job that ends well
 pub frame-goes : (now : ℕ) (c : Calibration) (flags : ℕ) (f : Codes) (t : Bench) → ready (placeIn (t .job)) flags ≡ true
     → let b = jobFrame now c flags f t .bench in GoesOn (oneUsed t) b ⊎ HasEnded (oneUsed t) b
 unfolding jobFrame served placeIn kindIn
@@ -168,7 +172,7 @@ frame-goes now c flags f t e =
     let sig = signal p (oldOf (zerosIn (t .corrections)) (t .job .«job_step»)) f in
     let r = readingOf p c (t .ranges .vr) (zerosIn (t .corrections)) f in
     subst (λ (u : Bool). Goes (oneUsed t) (cond u (servedBy now sig r (oneUsed t)) (unmarked t))) (sym e)
-    (served-goes (oneUsed t) now sig r (oneUsed t) (refl, refl, refl, refl, refl))
+    (served-goes (oneUsed t) now sig r (oneUsed t) (refl, refl, (refl, refl, refl, refl), refl, refl))
 
 -- an order that ends a job right after its start finds ranges and marks, zeros and gains as the start did
 pub start-then-end : (now res : ℕ) (k : Kind) (b : Bench) → let e = jobEnd res (begun now k b .bench) in (e .ranges ≡ b .ranges) × (e .corrections ≡ b .corrections)
@@ -178,56 +182,119 @@ start-then-end now res Gain b = (refl, refl)
 
 -- ---- "Each step drops 1 ready frame (4 for the AC reference), then counts 3"
 
--- ready frames one after the other, each as its signal and its reading
-abbrev pub serveAll : ℕ → List (Bool × Reading) → Bench → Bench
-serveAll now [] b = b
-serveAll now (f ∷ fs) b = serveAll now fs (servedBy now (f .0) (f .1) b .bench)
-
--- with so many frames left to drop
+-- with so many frames left to drop, and so many used
 abbrev pub toDrop : ℕ → Bench → Bench
-toDrop k b = withCycle b (withSkip (b .cycle) k)
+toDrop k t = withCycle t (withSkip (t .cycle) k)
 
--- the frames that a step drops change nothing but how many are left, whatever they read
-drops-one : (now k : ℕ) (sig : Bool) (r : Reading) (b : Bench) → servedBy now sig r (toDrop (suc k) b) ≡ unmarked (toDrop k b)
-unfolding servedBy
-drops-one now k sig r b =
-    let one-less : suc k - 1 ≡ k = omega arith in
-    rw (lt-ltb 0 (suc k) (omega arith)) (ap (λ (n : ℕ). unmarked (toDrop n b)) one-less)
+abbrev pub usedAs : ℕ → Bench → Bench
+usedAs u t = withJob t (withUsed (t .job) u)
 
-pub drops-all : (now : ℕ) (fs : List (Bool × Reading)) (b : Bench) → serveAll now fs (toDrop (length fs) b) ≡ toDrop 0 b
-drops-all now [] b = refl
-drops-all now (f ∷ fs) b = ap (λ (s : Served). serveAll now fs (s .bench)) (drops-one now (length fs) (f .0) (f .1) b) ∙ drops-all now fs b
+-- n more in a counter of 8 bits
+abbrev pub countMore : ℕ → ℕ → ℕ
+countMore zero u = u
+countMore (suc n) u = countMore n (countUp u)
 
-both : (now : ℕ) (fs gs : List (Bool × Reading)) (b : Bench) → serveAll now (fs ++ gs) b ≡ serveAll now gs (serveAll now fs b)
-both now [] gs b = refl
-both now (f ∷ fs) gs b = both now fs gs (servedBy now (f .0) (f .1) b .bench)
+-- frames in a job one after the other, each with its time, flags and codes
+abbrev pub Frame : Type 0
+Frame = ℕ × ℕ × Codes
 
-module _ (now s : ℕ) (b : Bench) (r0 r1 r2 : Reading) where
-  -- a step that begins
-  abbrev start : Bench
-  start = stepAt now s b .bench
+abbrev pub AllReady : Place → List Frame → Type 0
+AllReady p [] = Unit {0}
+AllReady p (f ∷ fs) = (ready p (f .1) ≡ true) × AllReady p fs
 
-  -- three ready frames that are no signal, and what the job holds after them
-  abbrev three : List (Bool × Reading)
-  three = (false, r0) ∷ (false, r1) ∷ (false, r2) ∷ []
+module _ (c : Calibration) where
+  abbrev pub pollAll : List Frame → Bench → Bench
+  pollAll [] t = t
+  pollAll (f ∷ fs) t = pollAll fs (jobFrame (f .0) c (f .1) (f .2) t .bench)
 
-  abbrev sums : Bench
-  sums = summed r2 (summed r1 (summed r0 (toDrop 0 start)))
+  both : (fs gs : List Frame) (t : Bench) → pollAll (fs ++ gs) t ≡ pollAll gs (pollAll fs t)
+  both [] gs t = refl
+  both (f ∷ fs) gs t = both fs gs (jobFrame (f .0) c (f .1) (f .2) t .bench)
 
-  -- the step's end with the means of these readings, each counted once, in their order
-  abbrev pub stepsEnd : Bench
-  stepsEnd = stepDone now (kindIn (sums .job)) (meanOf (zeroF +f r0 .x +f r1 .x +f r2 .x)) (meanOf (zeroF +f r0 .y +f r1 .y +f r2 .y)) sums .bench
+  module _ (now flags : ℕ) (f : Codes) (t : Bench) (e : ready (placeIn (t .job)) flags ≡ true) where
+    abbrev reads : Reading
+    reads = readingOf (placeIn (t .job)) c (t .ranges .vr) (zerosIn (t .corrections)) f
 
-  three-count : serveAll now three (toDrop 0 start) ≡ stepsEnd
-  unfolding stepAt servedBy counted countUp
-  three-count = refl
+    abbrev signals : Bool
+    signals = signal (placeIn (t .job)) (oldOf (zerosIn (t .corrections)) (t .job .«job_step»)) f
 
-  dropping : start ≡ toDrop (dropsOf (placeIn (atStep s (b .job)))) start
-  unfolding stepAt
-  dropping = refl
+    -- a ready frame is served, and counts as used
+    is-served : jobFrame now c flags f t ≡ servedBy now signals reads (oneUsed t)
+    unfolding jobFrame served placeIn kindIn
+    is-served = rw (e)
 
-  -- a step uses its drops, of which no reading counts, and three more
-  pub step-uses : (fs : List (Bool × Reading)) → length fs ≡ dropsOf (placeIn (atStep s (b .job))) → serveAll now (fs ++ three) start ≡ stepsEnd
-  step-uses fs e =
-      both now fs three start ∙ ap (λ (x : Bench). serveAll now three (serveAll now fs x)) (dropping ∙ ap (λ (k : ℕ). toDrop k start) (sym e))
-      ∙ ap (serveAll now three) (drops-all now fs start) ∙ three-count
+  -- one of those that the step drops: it changes nothing else, whatever it reads
+  drops-one : (now flags k : ℕ) (f : Codes) (t : Bench) → ready (placeIn (t .job)) flags ≡ true → jobFrame now c flags f (toDrop (suc k) t) ≡ unmarked (toDrop k (oneUsed t))
+  unfolding servedBy
+  drops-one now flags k f t e =
+      let one-less : suc k - 1 ≡ k = omega arith in
+      is-served now flags f (toDrop (suc k) t) e ∙ rw (lt-ltb 0 (suc k) (omega arith)) (ap (λ (n : ℕ). unmarked (toDrop n (oneUsed t))) one-less)
+
+  -- one that is counted
+  counts-one : (now flags : ℕ) (f : Codes) (t : Bench) (e : ready (placeIn (t .job)) flags ≡ true) → signals now flags f t e ≡ false
+      → jobFrame now c flags f (toDrop 0 t) ≡ counted now (reads now flags f t e) (oneUsed (toDrop 0 t))
+  unfolding servedBy
+  counts-one now flags f t e g = is-served now flags f (toDrop 0 t) e ∙ rw (g)
+
+  -- the frames that a step drops: each counts as used, and nothing else changes but how many are left
+  pub drops-all : (fs : List Frame) (u : ℕ) (t : Bench) → AllReady (placeIn (t .job)) fs → pollAll fs (toDrop (length fs) (usedAs u t)) ≡ toDrop 0 (usedAs (countMore (length fs) u) t)
+  unfolding placeIn kindIn
+  drops-all [] u t e = refl
+  drops-all (f ∷ fs) u t (r, e) =
+      ap (λ (s : Served). pollAll fs (s .bench)) (drops-one (f .0) (f .1) (length fs) (f .2) (usedAs u t) r) ∙ drops-all fs (countUp u) t e
+
+  module _ (now s : ℕ) (b : Bench) where
+    -- a step that begins, and what it measures
+    abbrev start : Bench
+    start = stepAt now s b .bench
+
+    abbrev place : Place
+    place = placeIn (atStep s (b .job))
+
+    abbrev readsAt : Codes → Reading
+    readsAt f = readingOf place c (start .ranges .vr) (zerosIn (b .corrections)) f
+
+    abbrev signalsAt : Codes → Bool
+    signalsAt f = signal place (oldOf (zerosIn (b .corrections)) s) f
+
+    -- after n frames dropped, and one, two and three counted
+    module _ (n : ℕ) (f0 f1 f2 : Frame) where
+      abbrev used : ℕ
+      used = countMore n (b .job .used)
+
+      abbrev one : Bench
+      one = summed (readsAt (f0 .2)) (usedAs (countUp used) (toDrop 0 start))
+
+      abbrev two : Bench
+      two = summed (readsAt (f1 .2)) (usedAs (countUp (countUp used)) one)
+
+      abbrev pub sums : Bench
+      sums = summed (readsAt (f2 .2)) (usedAs (countUp (countUp (countUp used))) two)
+
+      three-count : AllReady place (f0 ∷ f1 ∷ f2 ∷ []) → signalsAt (f0 .2) ≡ false → signalsAt (f1 .2) ≡ false → signalsAt (f2 .2) ≡ false
+          → pollAll (f0 ∷ f1 ∷ f2 ∷ []) (toDrop 0 (usedAs used start)) ≡ stepDone (f2 .0) (kindIn (sums .job)) (meanOf (sums .job .«job_a»)) (meanOf (sums .job .«job_b»)) sums .bench
+      unfolding stepAt counted countUp placeIn kindIn
+      three-count (e0, (e1, (e2, e))) g0 g1 g2 =
+          ap (λ (x : Served). pollAll (f1 ∷ f2 ∷ []) (x .bench)) (counts-one (f0 .0) (f0 .1) (f0 .2) (usedAs used start) e0 g0)
+          ∙ ap (λ (x : Served). pollAll (f2 ∷ []) (x .bench)) (counts-one (f1 .0) (f1 .1) (f1 .2) one e1 g1)
+          ∙ ap (λ (x : Served). x .bench) (counts-one (f2 .0) (f2 .1) (f2 .2) two e2 g2)
+
+      -- what they add up to, each once and in their order
+      pub sums-are : (sums .job .«job_a» ≡ zeroF +f readsAt (f0 .2) .x +f readsAt (f1 .2) .x +f readsAt (f2 .2) .x)
+          × (sums .job .«job_b» ≡ zeroF +f readsAt (f0 .2) .y +f readsAt (f1 .2) .y +f readsAt (f2 .2) .y) × (sums .job .used ≡ countUp (countUp (countUp used)))
+      unfolding stepAt
+      sums-are = (refl, refl, refl)
+
+    dropping : start ≡ toDrop (dropsOf place) (usedAs (b .job .used) start)
+    unfolding stepAt
+    dropping = refl
+
+    -- a step takes as many ready frames as it drops, whatever these read, and three more, none a signal: it is done with the means of the three, and all of them are used
+    pub step-uses : (fs : List Frame) (f0 f1 f2 : Frame) → length fs ≡ dropsOf place → AllReady place fs → AllReady place (f0 ∷ f1 ∷ f2 ∷ [])
+        → signalsAt (f0 .2) ≡ false → signalsAt (f1 .2) ≡ false → signalsAt (f2 .2) ≡ false
+        → let t = sums (length fs) f0 f1 f2 in pollAll (fs ++ (f0 ∷ f1 ∷ f2 ∷ [])) start ≡ stepDone (f2 .0) (kindIn (t .job)) (meanOf (t .job .«job_a»)) (meanOf (t .job .«job_b»)) t .bench
+    unfolding stepAt
+    step-uses fs f0 f1 f2 n r e g0 g1 g2 =
+        let three = f0 ∷ f1 ∷ f2 ∷ [] in
+        both fs three start ∙ ap (λ (x : Bench). pollAll three (pollAll fs x)) (dropping ∙ ap (λ (k : ℕ). toDrop k (usedAs (b .job .used) start)) (sym n))
+        ∙ ap (pollAll three) (drops-all fs (b .job .used) start r) ∙ three-count (length fs) f0 f1 f2 e g0 g1 g2

@@ -1,4 +1,4 @@
--- A job's beginning, the beginning of each of its steps, and its end: `pw_job_start`, `pw_job_step` and `pw_job_end` of the source, over all that a job may change.
+-- A job's beginning, the beginning of each of its steps, and its end: `pw_job_start`, `pw_job_step` and `pw_job_end` of the source, over the part of a meter that a job works on.
 use mathlib.Core.Bool.{true, cond}
 use Prim.Native.Nat.{ℕ}
 use lib.Dec.{eqb}
@@ -12,7 +12,7 @@ use Rattle.steps.specs.declared.place.Place.{Place}
 use Rattle.steps.specs.Place.{kindNumber, kindOf, layoutOf, placeOf, dropsOf, settleOf, statOf, stepRanges}
 use Rattle.jobs.specs.declared.bench.Bench.{Bench}
 use Rattle.jobs.specs.declared.bench.Served.{Served}
-use Rattle.jobs.specs.With.{withEnd, withStep, withKind, withJob, withCalReq, withRow}
+use Rattle.jobs.specs.With.{withEnd, withStep, withLast, withJob, withCalReq, withRow}
 
 -- the running job's kind, and what its step measures
 unfoldable pub kindIn : Job → Kind
@@ -27,7 +27,7 @@ unmarked b = record { bench = b; mark = noTime }
 
 -- ---- the end
 
--- `pw_job_end` of a running job: "job = 0; job_res = res; (vr, ik, v_auto, i_auto) = job_save; cal_req = on". No zero, no gain and no mark of theirs changes
+-- `pw_job_end` of a running job: `job = 0; job_res = res; (vr, ik, v_auto, i_auto) = job_save; cal_req = on`. No zero, no gain, and not `zero_ok`, changes
 unfoldable pub ended : ℕ → Bench → Bench
 ended res b =
     record {
@@ -35,7 +35,7 @@ ended res b =
       ranges = b .job .«job_save»;
       cycle = b .cycle;
       corrections = b .corrections;
-      job = withEnd (b .job) 0 res;
+      job = withEnd (b .job) res;
     }
 
 -- `if job == 0 { return }`: where none runs, nothing changes
@@ -69,7 +69,7 @@ next now b = stepAt now (countUp (b .job .«job_step»)) b
 
 -- ---- the beginning
 
--- "An accepted job start notes the job, and the ranges and automatic marks found": `pw_job_start` up to its step. `job_dc`, `job_raw` and `job_ref` stay as an earlier job left them; no ready frame is used yet
+-- "An accepted job start notes the job, and the ranges and automatic marks found": `pw_job_start`, whose `job_step = 0` is `stepAt`'s and whose `cal = 0` is `jobStarted`'s. `job_dc`, `job_raw` and `job_ref` stay as an earlier job left them; no ready frame is used yet
 abbrev pub noted : Kind → Bench → Job
 noted k b =
     record {
@@ -95,4 +95,4 @@ begun now k b = stepAt now 0 (withJob b (noted k b))
 
 -- a start in the alternating method, refusal 3: "a job start sets `job_last` and `JR_METHOD`, nothing else"
 unfoldable pub turnedAway : Kind → Job → Job
-turnedAway k j = withKind j (kindNumber k) jrMethod
+turnedAway k j = withLast j (kindNumber k) jrMethod

@@ -15,7 +15,7 @@ use Rattle.jobs.specs.declared.bench.Bench.{Bench}
 use Rattle.jobs.specs.declared.bench.Served.{Served}
 use Rattle.jobs.specs.With.{withSums, withUsed, withJob, withCycle, withSkip}
 use Rattle.jobs.specs.Bench.{kindIn, placeIn, unmarked}
-use Rattle.jobs.specs.Step.{over, stepDone}
+use Rattle.jobs.specs.Step.{endedUnmarked, stepDone}
 
 -- `job_a += x; job_b += y; job_n += 1`
 abbrev pub summed : Reading → Bench → Bench
@@ -33,7 +33,7 @@ dropped t = withCycle t (withSkip (t .cycle) (t .cycle .skip - 1))
 
 -- a ready frame, by its reading and whether it is a signal where none may be
 unfoldable pub servedBy : ℕ → Bool → Reading → Bench → Served
-servedBy now sig r t = cond (ltb 0 (t .cycle .skip)) (unmarked (dropped t)) (cond sig (over jrSignal t) (counted now r t))
+servedBy now sig r t = cond (ltb 0 (t .cycle .skip)) (unmarked (dropped t)) (cond sig (endedUnmarked jrSignal t) (counted now r t))
 
 -- "The answer reports how many ready frames the job has used, dropped ones included"
 abbrev pub oneUsed : Bench → Bench

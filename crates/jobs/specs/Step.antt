@@ -1,4 +1,4 @@
--- What a step's two means do to the job: the second half of `pw_job_poll`, from `job_n == JOB_N` on.
+-- What a step's two means do to the job: the second half of `pw_job_poll`, once `job_n < JOB_N` holds no longer.
 use mathlib.Core.Bool.{Bool, true, cond}
 use Prim.Native.Nat.{ℕ, _-_, _/_, _%_}
 use lib.Dec.{ltb, eqb}
@@ -19,38 +19,38 @@ use Rattle.jobs.specs.declared.bench.Served.{Served}
 use Rattle.jobs.specs.With.{withZx, withZd, withRaw, withRef, withJob, withCorrections, withZeros, withVgain}
 use Rattle.jobs.specs.Bench.{unmarked, ended, next}
 
--- a job that has ended so; the call gives no mark
-abbrev pub over : ℕ → Bench → Served
-over res b = unmarked (ended res b)
+-- the job has ended so; the call gives no mark
+abbrev pub endedUnmarked : ℕ → Bench → Served
+endedUnmarked res t = unmarked (ended res t)
 
 -- ---- the zero job
 
 -- a mean of steps 0 to 5, and of steps 6 to 11, is kept with the job
 abbrev pub zxNoted : ℤ → Bench → Bench
-zxNoted z b = withJob b (withZx (b .job) (set (b .job .«job_zx») (b .job .«job_step») z))
+zxNoted z t = withJob t (withZx (t .job) (set (t .job .«job_zx») (t .job .«job_step») z))
 
 abbrev pub zdNoted : ℤ → Bench → Bench
-zdNoted z b = withJob b (withZd (b .job) (set (b .job .«job_zd») (b .job .«job_step» - 6) z))
+zdNoted z t = withJob t (withZd (t .job) (set (t .job .«job_zd») (t .job .«job_step» - 6) z))
 
 -- "the 13 means .. become the zeros": the twelve kept with the job and the last, with the mark
 abbrev pub zerosStored : ℤ → Bench → Bench
-zerosStored z b = withCorrections b (withZeros (b .corrections) (b .job .«job_zx») (b .job .«job_zd») z true)
+zerosStored z t = withCorrections t (withZeros (t .corrections) (t .job .«job_zx») (t .job .«job_zd») z true)
 
 unfoldable pub zeroDone : ℕ → ℤ → Bench → Served
-zeroDone now z b =
-    cond (ltb (b .job .«job_step») 6) (next now (zxNoted z b))
-    (cond (ltb (b .job .«job_step») 12) (next now (zdNoted z b)) (over jrOk (zerosStored z b)))
+zeroDone now z t =
+    cond (ltb (t .job .«job_step») 6) (next now (zxNoted z t))
+    (cond (ltb (t .job .«job_step») 12) (next now (zdNoted z t)) (endedUnmarked jrOk (zerosStored z t)))
 
 -- ---- the gain job
 
 -- `step / 2`: the round, 0 or 1
 abbrev pub roundOf : Bench → ℕ
-roundOf b = atMost 1 (b .job .«job_step» / 2)
+roundOf t = atMost 1 (t .job .«job_step» / 2)
 
 abbrev pub byRaw : ℕ → RawVerdict → Bench → Served
-byRaw now Small b = over jrSmall b
-byRaw now Big b = over jrBig b
-byRaw now Fair b = next now b
+byRaw now Small t = endedUnmarked jrSmall t
+byRaw now Big t = endedUnmarked jrBig t
+byRaw now Fair t = next now t
 
 -- the kind, and the part that counts as `job_raw` of the round
 abbrev pub rawNoted : Bool → Float → Float → Bench → Bench
@@ -62,26 +62,26 @@ rawDone now dc a b t = byRaw now (rawVerdict dc (t .ranges .vr) a b) (rawNoted d
 
 -- "or the half sum the gain of the range that the source gives the job": `vgain[r] = g`
 abbrev pub gainStored : Float → Bench → Bench
-gainStored g b = withCorrections b (withVgain (b .corrections) (set (b .corrections .vgain) (atMost 3 (b .ranges .vr)) g))
+gainStored g t = withCorrections t (withVgain (t .corrections) (set (t .corrections .vgain) (atMost 3 (t .ranges .vr)) g))
 
 abbrev pub byGain : GainVerdict → Bench → Served
-byGain Unstable b = over jrUnstable b
-byGain Outside b = over jrRange b
-byGain (Good g) b = over jrOk (gainStored g b)
+byGain Unstable t = endedUnmarked jrUnstable t
+byGain Outside t = endedUnmarked jrRange t
+byGain (Good g) t = endedUnmarked jrOk (gainStored g t)
 
 abbrev pub refNoted : Float → Bench → Bench
-refNoted a b = withJob b (withRef (b .job) (set (b .job .«job_ref») (roundOf b) a))
+refNoted a t = withJob t (withRef (t .job) (set (t .job .«job_ref») (roundOf t) a))
 
 -- the verdict on both rounds
 abbrev pub verdictIn : Bench → GainVerdict
-verdictIn b = gainVerdict (getD (b .job .«job_raw») 0 nan) (getD (b .job .«job_ref») 0 nan) (getD (b .job .«job_raw») 1 nan) (getD (b .job .«job_ref») 1 nan)
+verdictIn t = gainVerdict (getD (t .job .«job_raw») 0 nan) (getD (t .job .«job_ref») 0 nan) (getD (t .job .«job_raw») 1 nan) (getD (t .job .«job_ref») 1 nan)
 
 unfoldable pub judged : Bench → Served
-judged b = byGain (verdictIn b) b
+judged t = byGain (verdictIn t) t
 
 -- a reference step; step 3 is the last
 unfoldable pub refDone : ℕ → Float → Bench → Served
-refDone now a b = cond (ltb (b .job .«job_step») 3) (next now (refNoted a b)) (judged (refNoted a b))
+refDone now a t = cond (ltb (t .job .«job_step») 3) (next now (refNoted a t)) (judged (refNoted a t))
 
 -- "step 0 fixes DC or AC"
 unfoldable pub gainDone : ℕ → Float → Float → Bench → Served

@@ -8,10 +8,11 @@ use Rattle.steps.specs.declared.place.Kind.{Kind}
 use Rattle.jobs.specs.declared.bench.Bench.{Bench}
 use Rattle.jobs.specs.declared.whole.Started.{Started}
 use Rattle.jobs.specs.declared.whole.Polled.{Polled}
+use Rattle.jobs.specs.With.{withJob}
 use Rattle.jobs.specs.Bench.{jobEnd, begun, turnedAway}
 use Rattle.jobs.specs.Frame.{jobFrame}
 
--- what a job may change
+-- the part of a meter that a job works on
 unfoldable pub benchIn : Pw → Bench
 benchIn m = record { mode = m .mode; ranges = m .ranges; cycle = m .cycle; corrections = m .corrections; job = m .job }
 
@@ -49,13 +50,13 @@ jobStarted m k now =
 
 -- a job's start that is refused with 3
 unfoldable pub jobTurnedAway : Pw → Kind → Pw
-jobTurnedAway m k = withBench m (record { mode = m .mode; ranges = m .ranges; cycle = m .cycle; corrections = m .corrections; job = turnedAway k (m .job) })
+jobTurnedAway m k = withBench m (withJob (benchIn m) (turnedAway k (m .job)))
 
 -- a job's end by an order; where none runs nothing changes
 unfoldable pub jobEnded : Pw → ℕ → Pw
 jobEnded m res = withBench m (jobEnd res (benchIn m))
 
--- a frame in a job. "`t_poll` is the frame's time"; a frame that is not ready "changes only `t_poll`". The count is that of the ready frames used, this one too
+-- a frame in a job. "`t_poll` is the frame's time"; a frame that is not ready "changes only `t_poll`". The count is that of the ready frames used, this one too if it is ready. Module 7 calls it only while a job runs; where none does it is a gain job's frame
 unfoldable pub jobPolled : Pw → ℕ → ℕ → Codes → Polled
 jobPolled m now flags f =
     let s = jobFrame now (m .calibration) flags f (benchIn m) in

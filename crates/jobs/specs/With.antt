@@ -10,9 +10,9 @@ use Rattle.state.specs.declared.Corrections.{Corrections}
 use Rattle.state.specs.declared.Job.{Job}
 use Rattle.jobs.specs.declared.bench.Bench.{Bench}
 
--- job, job_res
-abbrev pub withEnd : Job → ℕ → ℕ → Job
-withEnd j a b = record { job = a; «job_step» = j .«job_step»; «job_n» = j .«job_n»; «job_a» = j .«job_a»; «job_b» = j .«job_b»; «job_dc» = j .«job_dc»; «job_raw» = j .«job_raw»; «job_ref» = j .«job_ref»; «job_zx» = j .«job_zx»; «job_zd» = j .«job_zd»; «job_save» = j .«job_save»; «job_res» = b; «job_vr» = j .«job_vr»; «job_last» = j .«job_last»; used = j .used }
+-- job, which becomes 0, job_res
+abbrev pub withEnd : Job → ℕ → Job
+withEnd j res = record { job = 0; «job_step» = j .«job_step»; «job_n» = j .«job_n»; «job_a» = j .«job_a»; «job_b» = j .«job_b»; «job_dc» = j .«job_dc»; «job_raw» = j .«job_raw»; «job_ref» = j .«job_ref»; «job_zx» = j .«job_zx»; «job_zd» = j .«job_zd»; «job_save» = j .«job_save»; «job_res» = res; «job_vr» = j .«job_vr»; «job_last» = j .«job_last»; used = j .used }
 
 -- job_step, job_n, job_a, job_b
 abbrev pub withStep : Job → ℕ → ℕ → Float → Float → Job
@@ -23,8 +23,8 @@ abbrev pub withSums : Job → ℕ → Float → Float → Job
 withSums j n a b = record { job = j .job; «job_step» = j .«job_step»; «job_n» = n; «job_a» = a; «job_b» = b; «job_dc» = j .«job_dc»; «job_raw» = j .«job_raw»; «job_ref» = j .«job_ref»; «job_zx» = j .«job_zx»; «job_zd» = j .«job_zd»; «job_save» = j .«job_save»; «job_res» = j .«job_res»; «job_vr» = j .«job_vr»; «job_last» = j .«job_last»; used = j .used }
 
 -- job_last, job_res
-abbrev pub withKind : Job → ℕ → ℕ → Job
-withKind j a b = record { job = j .job; «job_step» = j .«job_step»; «job_n» = j .«job_n»; «job_a» = j .«job_a»; «job_b» = j .«job_b»; «job_dc» = j .«job_dc»; «job_raw» = j .«job_raw»; «job_ref» = j .«job_ref»; «job_zx» = j .«job_zx»; «job_zd» = j .«job_zd»; «job_save» = j .«job_save»; «job_res» = b; «job_vr» = j .«job_vr»; «job_last» = a; used = j .used }
+abbrev pub withLast : Job → ℕ → ℕ → Job
+withLast j a b = record { job = j .job; «job_step» = j .«job_step»; «job_n» = j .«job_n»; «job_a» = j .«job_a»; «job_b» = j .«job_b»; «job_dc» = j .«job_dc»; «job_raw» = j .«job_raw»; «job_ref» = j .«job_ref»; «job_zx» = j .«job_zx»; «job_zd» = j .«job_zd»; «job_save» = j .«job_save»; «job_res» = b; «job_vr» = j .«job_vr»; «job_last» = a; used = j .used }
 
 -- job_zx
 abbrev pub withZx : Job → List ℤ → Job

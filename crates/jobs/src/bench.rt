@@ -21,7 +21,8 @@ use steps::place::step_ranges;
 use tables::constants::JR_METHOD;
 use tables::constants::JR_RUN;
 
-// All that a job's frame may change.
+// The part of a meter that a job works on: all that a job may change, but `cal` (by its start) and
+// `t_poll` (by a frame).
 #[repr(C)]
 pub struct Bench {
     pub mode: Mode,

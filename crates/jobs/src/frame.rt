@@ -5,7 +5,7 @@ use crate::bench::Bench;
 use crate::bench::Served;
 use crate::bench::kind_in;
 use crate::bench::place_in;
-use crate::step::over;
+use crate::step::end_unmarked;
 use crate::step::step_done;
 use codes::Codes;
 use state::Stamp;
@@ -57,7 +57,7 @@ fn serve_by(now: u64, signal: bool, reading: Reading, before: Bench) -> Served
         };
     }
     if signal {
-        return over(JR_SIGNAL, before);
+        return end_unmarked(JR_SIGNAL, before);
     }
     count(now, reading, before)
 }

@@ -1,4 +1,4 @@
-// Module 5 of document 01, jobs: here a zero or a gain is earned. A job goes step by step; each step
+// Module 5 of document 01, jobs: here a zero or a gain is measured and stored. A job goes step by step; each step
 // drops some ready frames, then counts three, and its means decide how the job goes on or ends.
 pub mod bench;
 pub mod frame;

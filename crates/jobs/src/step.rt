@@ -2,7 +2,7 @@
 ghost use mathlib.Core.Path.{_≡_};
 ghost use Prim.Native.Nat.{_/_};
 ghost use Rattle.tables.specs.Bounds.{atMost};
-ghost use Rattle.jobs.specs.Step.{over, zeroDone, byRaw, rawDone, byGain, judged, refDone, gainDone, stepDone};
+ghost use Rattle.jobs.specs.Step.{endedUnmarked, zeroDone, byRaw, rawDone, byGain, judged, refDone, gainDone, stepDone};
 use crate::bench::Bench;
 use crate::bench::Served;
 use crate::bench::end_with;
@@ -24,8 +24,8 @@ use tables::constants::JR_SMALL;
 use tables::constants::JR_UNSTABLE;
 
 // The job has ended so, with no mark.
-pub(crate) fn over(res: u8, before: Bench) -> Served
-    ensures { λ r. ⌜ r ≡ over res before ⌝ }
+pub(crate) fn end_unmarked(res: u8, before: Bench) -> Served
+    ensures { λ r. ⌜ r ≡ endedUnmarked res before ⌝ }
 {
     Served {
         bench: end_with(res, before),
@@ -61,7 +61,7 @@ fn zero_done(now: u64, zero: i16, before: Bench) -> Served
     corrections.zy = zero;
     corrections.zero_ok = true;
     after.corrections = corrections;
-    over(JR_OK, after)
+    end_unmarked(JR_OK, after)
 }
 
 // The round that a step of the gain job belongs to.
@@ -76,8 +76,8 @@ fn by_raw(now: u64, verdict: RawVerdict, before: Bench) -> Served
     ensures { λ r. ⌜ r ≡ byRaw now verdict before ⌝ }
 {
     match verdict {
-        RawVerdict::Small => over(JR_SMALL, before),
-        RawVerdict::Big => over(JR_BIG, before),
+        RawVerdict::Small => end_unmarked(JR_SMALL, before),
+        RawVerdict::Big => end_unmarked(JR_BIG, before),
         RawVerdict::Fair => next(now, before),
     }
 }
@@ -103,8 +103,8 @@ fn by_gain(verdict: GainVerdict, before: Bench) -> Served
     ensures { λ r. ⌜ r ≡ byGain verdict before ⌝ }
 {
     match verdict {
-        GainVerdict::Unstable => over(JR_UNSTABLE, before),
-        GainVerdict::Outside => over(JR_RANGE, before),
+        GainVerdict::Unstable => end_unmarked(JR_UNSTABLE, before),
+        GainVerdict::Outside => end_unmarked(JR_RANGE, before),
         GainVerdict::Good(g) => {
             let vr = before.ranges.vr;
             let k = at_most(3, vr) as usize;
@@ -112,7 +112,7 @@ fn by_gain(verdict: GainVerdict, before: Bench) -> Served
             corrections.vgain[k] = g;
             let mut after = before;
             after.corrections = corrections;
-            over(JR_OK, after)
+            end_unmarked(JR_OK, after)
         }
     }
 }

@@ -27,7 +27,7 @@ pub struct Polled {
     pub used: u8,
 }
 
-// What a job may change.
+// The part of a meter that a job works on.
 fn bench_in(pw: Pw) -> Bench
     ensures { λ r. ⌜ r ≡ benchIn pw ⌝ }
 {
@@ -92,7 +92,7 @@ pub fn job_end(before: Pw, res: u8) -> Pw
     with_bench(before, end_if_any(res, bench_in(before)))
 }
 
-// A frame in a job.
+// A frame in a job. (Where none runs, it is taken as a gain job's; module 7 calls it only in a job.)
 pub fn job_poll(before: Pw, now: u64, flags: u8, codes: Codes) -> Polled
     ensures { λ r. ⌜ r ≡ jobPolled before now flags codes ⌝ }
 {

@@ -14,7 +14,7 @@ use tables::constants::CAL_RANGE;
 use tables::constants::CAL_RUN;
 
 // What a calibration comes to: the phase step found; no null, where the two means hardly differ; or a
-// null beyond 127 steps.
+// null beyond 127.49 steps to either side.
 pub enum CalOutcome {
     Steps(i8),
     Flat,
@@ -83,7 +83,8 @@ pub fn cal_start(before: PhaseCal) -> PhaseCal
     }
 }
 
-// A calibration stopped by a job: the phase step and the result stay as they are.
+// A calibration stopped by a job. The phase step stays, be it the trial step, and so does the result, be
+// it CAL_RUN.
 pub fn cal_off(before: PhaseCal) -> PhaseCal
     ensures { λ r. ⌜ r ≡ calOff before ⌝ }
 {

@@ -1,7 +1,7 @@
 -- What follows from the definitions: the mean in the source's two steps, the bound that each step of the zero job is held to, the frames of a job, and what a good gain is.
 use mathlib.Core.Path.{_≡_, refl, sym, ap, _∙_}
 use mathlib.Core.Bool.{Bool, true, false, cond}
-use Prim.Native.Nat.{ℕ, zero, suc, _*_, _/_, _<_, _≤_, min}
+use Prim.Native.Nat.{ℕ, zero, suc, _+_, _*_, _/_, _<_, _≤_, min}
 use native.Mathlib.Omega.{arith}
 use borrow.Author.Tests.{ltb-true, ltb-false, lt-ltb, le-ltb}
 use lib.Dec.{ltb}
@@ -11,12 +11,12 @@ use lib.Ieee.{Float, nan, inf, fin, add, mul, div, up, down, toSigned}
 use Rattle.numbers.specs.Binary32.{_+f_, _*f_, _/f_, isFinite}
 use Rattle.numbers.specs.Convert.{halfF, halfAway}
 use Rattle.codes.specs.declared.Codes.{Codes}
-use Rattle.tables.specs.Constants.{zeroMaxAd1}
+use Rattle.tables.specs.Constants.{jobN, zeroMaxAd1}
 use Rattle.tables.specs.Gain.{plausible}
 use Rattle.steps.specs.declared.place.Place.the-variants.{ZeroX, ZeroD, ZeroY}
 use Rattle.steps.specs.declared.verdict.GainVerdict.{GainVerdict}
 use Rattle.steps.specs.declared.verdict.GainVerdict.the-variants.{Unstable, Outside, Good}
-use Rattle.steps.specs.Place.{zeroSteps, dcSteps, acSteps, placeOf, framesTo}
+use Rattle.steps.specs.Place.{Layout, zeroSteps, dcSteps, acSteps, placeOf, dropsOf}
 use Rattle.steps.specs.Reading.{distance, lpfSignal, signal}
 use Rattle.steps.specs.Verdict.{zeroMean, halfSum, steady, roundsDiffer, ratioVerdict, gainVerdict}
 
@@ -95,7 +95,11 @@ module _ (s : ℕ) where
     unfolding signal
     lpf-bound-last h = rw (le-ltb s 6 (omega arith), le-ltb s 12 h)
 
--- ---- "a zero job uses at most 52, a gain job at most 22"; of DC it is 16
+-- ---- "Each step drops 1 ready frame (4 for the AC reference), then counts 3": the ready frames of a job's first n steps. All its steps take 52; 16 in DC and 22 in AC
+
+abbrev pub framesTo : Layout → ℕ → ℕ
+framesTo l zero = 0
+framesTo l (suc n) = framesTo l n + (dropsOf (placeOf l n) + jobN)
 
 pub frames : (framesTo zeroSteps 13 ≡ 52) × (framesTo dcSteps 4 ≡ 16) × (framesTo acSteps 4 ≡ 22)
 frames = (refl, refl, refl)

@@ -1,9 +1,9 @@
 -- What each step of a job measures, and how: `pw_job_step` of the source, the tests of `pw_job_poll` before its readings, and `stat` as `pw_write_config` sets it.
 use mathlib.Core.Bool.{Bool, true, false, cond}
-use Prim.Native.Nat.{ℕ, zero, suc, _+_, _%_}
+use Prim.Native.Nat.{ℕ, _%_}
 use lib.Dec.{ltb, eqb}
 use Rattle.codes.specs.Flags.{holdsAd1, holdsRmsLpf}
-use Rattle.tables.specs.Constants.{jobZero, jobVcal, jobSkip, altVSkip, jobN, settleMs, vcalDcSettleMs, vcalAcSettleMs, r34Xx, r34Yy}
+use Rattle.tables.specs.Constants.{jobZero, jobVcal, jobSkip, altVSkip, settleMs, vcalDcSettleMs, vcalAcSettleMs, r34Xx, r34Yy}
 use Rattle.state.specs.declared.Ranges.{Ranges}
 use Rattle.steps.specs.declared.place.Kind.{Kind}
 use Rattle.steps.specs.declared.place.Kind.the-variants.{Zero, Gain}
@@ -15,7 +15,7 @@ abbrev pub kindNumber : Kind → ℕ
 kindNumber Zero = jobZero
 kindNumber Gain = jobVcal
 
--- the kind of a running job by its number: the source's `_` arm takes every other for the gain job
+-- the kind of a running job by its number, which is 1 or 2; any other counts as the gain job's
 unfoldable pub kindOf : ℕ → Kind
 kindOf job = cond (eqb job jobZero) Zero Gain
 
@@ -44,11 +44,6 @@ dropsOf ZeroY = jobSkip
 dropsOf Raw = jobSkip
 dropsOf RefDc = jobSkip
 dropsOf RefAc = altVSkip
-
--- "Each step drops .., then counts 3" (`JOB_N`): the ready frames of a job's first n steps
-abbrev pub framesTo : Layout → ℕ → ℕ
-framesTo l zero = 0
-framesTo l (suc n) = framesTo l n + (dropsOf (placeOf l n) + jobN)
 
 -- how long the row settles: `SETTLE_MS`, 450, `VCAL_AC_SETTLE_MS`
 abbrev pub settleOf : Place → ℕ

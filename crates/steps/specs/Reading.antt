@@ -46,7 +46,7 @@ zyOf (kept zx zd zy) = zy
 abbrev alone : Float → Reading
 alone x = record { x = x; y = zeroF }
 
--- `lpf as f32` and `ad1 as f32`
+-- `lpf as f32` and `ad1 as f32`: a code less no zero
 abbrev asFloat : ℤ → Float
 asFloat c = codeLess c (pos 0)
 

@@ -46,7 +46,7 @@ pub fn kind_number(kind: Kind) -> u8
     }
 }
 
-// The kind of the job with this number.
+// The kind of the running job with this number: 1 is the zero job, any other counts as the gain job.
 pub fn kind_of(job: u8) -> Kind
     ensures { λ r. ⌜ r ≡ kindOf job ⌝ }
 {
@@ -116,7 +116,7 @@ pub fn settle_of(place: Place) -> u64
     }
 }
 
-// R34 of the power row; with another row it is in no register.
+// `stat` of the step, R34 of the power row. The DC row and the reference rows bring their own R34.
 pub fn stat_of(place: Place) -> u8
     ensures { λ r. ⌜ r ≡ statOf place ⌝ }
 {

@@ -12,17 +12,23 @@ use tables::lookups::v_lim;
 // The root of two, of core's constants.
 const SQRT_2: f32 = 1.41421356;
 
-// Of a raw step: too small, too large, or fit to go on with.
+// Of a raw step.
 pub enum RawVerdict {
+    // too small: the job ends with JR_SMALL
     Small,
+    // too large: JR_BIG
     Big,
+    // fit to go on with
     Fair,
 }
 
-// Of the whole gain job: the two rounds differ, the gain is not plausible, or it is good.
+// Of the whole gain job.
 pub enum GainVerdict {
+    // the two rounds differ: JR_UNSTABLE
     Unstable,
+    // the gain does not lie from 0.9 to 1.1: JR_RANGE
     Outside,
+    // the gain to store: JR_OK
     Good(f32),
 }
 
@@ -48,7 +54,7 @@ pub fn part_of(dc: bool, a: f32, b: f32) -> f32
     if dc { b } else { a }
 }
 
-// How much of the range it may fill.
+// How much of the range the part that counts may fill.
 fn vcal_max(dc: bool) -> f32
     ensures { λ r. ⌜ r ≡ vcalMax dc ⌝ }
 {
@@ -91,7 +97,7 @@ fn rounds_differ(r0: f32, r1: f32, g: f32, steady: bool) -> bool
     !steady
 }
 
-// The verdict on the same: unstable is tested before the range.
+// The verdict on the same: unstable is tested before the gain's bounds.
 fn ratio_verdict(r0: f32, r1: f32, g: f32, steady: bool) -> GainVerdict
     ensures { λ r. ⌜ r ≡ ratioVerdict r0 r1 g steady ⌝ }
 {

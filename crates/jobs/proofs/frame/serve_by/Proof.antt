@@ -12,12 +12,12 @@ returns : tie.Need-returns
 unfolding servedBy
 returns c = simp (lt-ltb _ _ (c .before .if1 .taken))
 
-over-requires : tie.Need-over-requires
-over-requires c κs = search needs
+end-unmarked-requires : tie.Need-end-unmarked-requires
+end-unmarked-requires c κs = search needs
 
 returns-2 : tie.Need-returns-2
 unfolding servedBy
-returns-2 c = simp (c .over .ensures, c .before .if2 .taken, le-ltb _ _ (c .before .before .if1 .left))
+returns-2 c = simp (c .end-unmarked .ensures, c .before .if2 .taken, le-ltb _ _ (c .before .before .if1 .left))
 
 count-requires : tie.Need-count-requires
 count-requires c κs = search needs
@@ -28,4 +28,4 @@ returns-3 c = simp (c .count .ensures, c .before .if2 .left, le-ltb _ _ (c .befo
 
 pub serve-by-spec : {M : Type 1} → statement M
 serve-by-spec =
-    tie.close (tie.spec sub-left returns over-requires returns-2 count-requires returns-3)
+    tie.close (tie.spec sub-left returns end-unmarked-requires returns-2 count-requires returns-3)

@@ -6,14 +6,14 @@ use Rattle.jobs.proofs.step.by_raw.Tie as tie
 enum-told : tie.Need-enum-told
 enum-told c = search needs
 
-over-requires : tie.Need-over-requires
-over-requires c κs = search needs
+end-unmarked-requires : tie.Need-end-unmarked-requires
+end-unmarked-requires c κs = search needs
 
 enum-told-2 : tie.Need-enum-told-2
 enum-told-2 c = search needs
 
-over-requires-2 : tie.Need-over-requires-2
-over-requires-2 c κs = search needs
+end-unmarked-requires-2 : tie.Need-end-unmarked-requires-2
+end-unmarked-requires-2 c κs = search needs
 
 enum-told-3 : tie.Need-enum-told-3
 enum-told-3 c = search needs
@@ -22,10 +22,10 @@ next-requires : tie.Need-next-requires
 next-requires c κs = search needs
 
 returns : tie.Need-returns
-returns c = simp (c .over .ensures, c .before .enum-told .given .1)
+returns c = simp (c .end-unmarked .ensures, c .before .enum-told .given .1)
 
 returns-2 : tie.Need-returns-2
-returns-2 c = simp (c .over2 .ensures, c .before .enum-told2 .given .1)
+returns-2 c = simp (c .end-unmarked2 .ensures, c .before .enum-told2 .given .1)
 
 returns-3 : tie.Need-returns-3
 returns-3 c = simp (c .next .ensures, c .before .enum-told3 .given .1)
@@ -35,9 +35,9 @@ by-raw-spec =
     tie.close
     (tie.spec
     enum-told
-    over-requires
+    end-unmarked-requires
     enum-told-2
-    over-requires-2
+    end-unmarked-requires-2
     enum-told-3
     next-requires
     returns

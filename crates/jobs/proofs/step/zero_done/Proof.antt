@@ -38,12 +38,12 @@ returns-2 : tie.Need-returns-2
 unfolding zeroDone
 returns-2 c = simp (c .next2 .ensures, lt-ltb _ _ (c .before .if2 .taken), le-ltb _ _ (c .before .before .if1 .left), toZ-ofZ (c .before .before .before .before .fits .zero))
 
-over-requires : tie.Need-over-requires
-over-requires c κs = search needs
+end-unmarked-requires : tie.Need-end-unmarked-requires
+end-unmarked-requires c κs = search needs
 
 returns-3 : tie.Need-returns-3
 unfolding zeroDone
-returns-3 c = simp (c .over .ensures, le-ltb _ _ (c .before .before .before .before .if2 .left), le-ltb _ _ (c .before .before .before .before .before .if1 .left), toZ-ofZ (c .before .before .before .before .before .before .before .fits .zero))
+returns-3 c = simp (c .end-unmarked .ensures, le-ltb _ _ (c .before .before .before .before .if2 .left), le-ltb _ _ (c .before .before .before .before .before .if1 .left), toZ-ofZ (c .before .before .before .before .before .before .before .fits .zero))
 
 pub zero-done-spec : {M : Type 1} → statement M
 zero-done-spec =
@@ -59,5 +59,5 @@ zero-done-spec =
     element-set-from-zero-2
     next-requires-2
     returns-2
-    over-requires
+    end-unmarked-requires
     returns-3)
