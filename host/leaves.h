@@ -386,12 +386,12 @@ struct leaf_cal_outcome leaf_cal_outcome(float s);
 struct leaf_phase_cal leaf_cal_start(struct leaf_phase_cal before);
 
 /* The phase calibration's part of the accounting step. It acts where one runs and 8 results or more are
- * counted, and then nothing is counted any longer. Round 1: a mean above 0.32 in size ends it with
- * CAL_NOT_REACTIVE (4); any other, and a NaN, is kept in cal_pa, and round 2 begins 48 steps up, or 48
- * down from a step above 79. Any other round ends it by leaf_cal_outcome of the step at which the line
- * through both means is nothing, or of a NaN where it does not rise or fall by more than 1e-7 a step: the
- * step found is in force then, or where there is none that of the start. cal_req becomes true at each of
- * these ends but CAL_NOT_REACTIVE's, where it stays. */
+ * counted, and then cal_n and cal_acc become 0. Round 1: a mean above 0.32 in size ends it with
+ * CAL_NOT_REACTIVE (4); any other, and a NaN, is kept in cal_pa, and round 2 begins with sph at
+ * cal_s0 + 48, or at cal_s0 - 48 where cal_s0 is above 79. Any other round ends it by leaf_cal_outcome of
+ * the step at which the line through both means is nothing, or of a NaN where it does not rise or fall by
+ * more than 1e-7 a step: the step found is in force then, or where there is none that of the start.
+ * cal_req becomes true at each of these ends but CAL_NOT_REACTIVE's, where it stays. */
 struct leaf_phase_step {
     struct leaf_phase_cal phase_cal;
     bool cal_req;
@@ -407,12 +407,14 @@ struct leaf_started {
 };
 
 /* A job start that is not refused: kind 1 is the zero job, any other number the gain job. The ranges and
- * automatic marks are noted, the stored zeros copied, the phase calibration is off (its result and sph
- * stay), and step 0 begins, with no ready frame used: the step's row is to be written, at any rate. It
- * tests neither `on`, the job nor the method. */
+ * automatic marks are noted, zx and zd copied whatever their mark, the phase calibration is off (its
+ * result and sph stay), and step 0 begins, with no ready frame used; the mark is always set. A step begins
+ * with its current range (the zero job's steps 0 to 11), the frames to drop in `skip`, `stat`, and sums of
+ * nothing. It tests neither `on`, the job nor the method. */
 struct leaf_started leaf_job_start(struct leaf_pw pw, uint8_t kind, uint64_t now);
 
-/* A job start that is refused with 3: job_last is the kind and job_res JR_METHOD (9), nothing else. */
+/* A job start that is refused with 3: job_last is 1 or 2, by `kind` as of leaf_job_start, and job_res
+ * JR_METHOD (9), nothing else. */
 struct leaf_pw leaf_job_turned_away(struct leaf_pw pw, uint8_t kind);
 
 /* The source's pw_job_end. Where a job runs none does any longer, job_res is `res`, the ranges and
@@ -421,7 +423,7 @@ struct leaf_pw leaf_job_turned_away(struct leaf_pw pw, uint8_t kind);
 struct leaf_pw leaf_job_end(struct leaf_pw pw, uint8_t res);
 
 /* The meter after a frame, the mark (as of a start) where the next step has begun, and how many ready
- * frames the job has used, this one included, also where it has ended the job. */
+ * frames the job has used, this one included if it is ready, also where it has ended the job. */
 struct leaf_polled {
     struct leaf_pw pw;
     struct leaf_stamp mark;
@@ -429,9 +431,10 @@ struct leaf_polled {
 };
 
 /* What one frame does to the meter in a job, by document 01's rules of the jobs; its time becomes t_poll.
- * It does not test `on`. The description, the words, barred, parts, powers, tally, over_t0, settings,
- * phase calibration, comparator and ring come back as they were, and so do the corrections, unless the
- * job ends with JR_OK (2). */
+ * It tests neither `on` nor whether a job runs: any job number but 1 counts as the gain job's. The
+ * description, the words, barred, parts, powers, tally, run, t_last, over_t0, settings, phase
+ * calibration, comparator and ring come back as they were, and so do the corrections, unless the job ends
+ * with JR_OK (2). */
 struct leaf_polled leaf_job_poll(struct leaf_pw pw, uint64_t now, uint8_t flags, int32_t ad1, int32_t lpf,
                                  int64_t rms);
 

@@ -17,8 +17,8 @@ enum { LAST_ZERO = 12, FIRST_AD1 = 6 };
 /* ---- cases ---- */
 
 /* No list of calls leads to a ratio that is not finite (what is measured is a tenth of the range at the least, and
- * no reference is infinite), to a mean just at a tenth of the range, to a job while the meter is off, to automatic
- * marks that a job has changed, or to zeros without their mark. test_jobs has them. */
+ * no reference is infinite), to a job while the meter is off, to automatic marks that a job has changed, or to zeros
+ * without their mark. test_jobs has them. */
 enum met {
     NOT_READY, NOT_READY_AD1, DROPPED, COUNTED, BEGUN, ZERO_STARTED, GAIN_STARTED, STARTED_DC, STARTED_IN_CAL,
     AWAY_ZERO, AWAY_GAIN, ZERO_OK, ZERO_AGAIN, ROOT, FAR_X, FAR_AD1, FAR_Y, FAR_FROM_OLD, NEAR_OLD, HELD, GAIN_DC,

@@ -1,4 +1,4 @@
--- What follows from the definitions: what a job's start, a frame in a job and a job's end leave as it was; that an end gives back what the start found; that zeros and gains change only where a job ends well; and how many ready frames a step uses.
+-- What follows from the definitions: what a job's start, a frame in a job and a job's end leave as it was; that the frame that ends a job gives back the ranges and marks noted at its start; that zeros and gains change only where a job ends well; and how many ready frames a step uses.
 use mathlib.Core.Path.{_≡_, refl, sym, ap, subst, _∙_}
 use mathlib.Core.Bool.{Bool, true, false, cond}
 use mathlib.Core.Logic.{_⊎_, inl, inr}
@@ -95,11 +95,11 @@ not-ready m now flags f e = rw (e)
 
 -- ---- a frame in a job: the job goes on or has ended
 
--- what no frame changes: the ranges and marks noted at the start, with the kind and the V range, and the count of ready frames
+-- what is alike in both: the ranges and marks noted at the start, with the kind and the V range, and the count of ready frames (below, t has its frame counted already)
 abbrev pub Noted : Bench → Bench → Type 0
 Noted t b = (b .job .«job_save» ≡ t .job .«job_save») × (b .job .«job_last» ≡ t .job .«job_last») × (b .job .«job_vr» ≡ t .job .«job_vr») × (b .job .used ≡ t .job .used)
 
--- it goes on: its number and result, what is noted, zeros and gains, and the mode are as they were
+-- it goes on: its number and result, the ranges, marks, kind and V range noted at its start, zeros and gains, and the mode are as they were
 abbrev pub GoesOn : Bench → Bench → Type 0
 GoesOn t b = (b .job .job ≡ t .job .job) × (b .job .«job_res» ≡ t .job .«job_res») × Noted t b × (b .corrections ≡ t .corrections) × (b .mode ≡ t .mode)
 
@@ -174,7 +174,7 @@ frame-goes now c flags f t e =
     subst (λ (u : Bool). Goes (oneUsed t) (cond u (servedBy now sig r (oneUsed t)) (unmarked t))) (sym e)
     (served-goes (oneUsed t) now sig r (oneUsed t) (refl, refl, (refl, refl, refl, refl), refl, refl))
 
--- an order that ends a job right after its start finds ranges and marks, zeros and gains as the start did
+-- an order that ends a job right after its start leaves ranges and marks, zeros and gains as the start found them
 pub start-then-end : (now res : ℕ) (k : Kind) (b : Bench) → let e = jobEnd res (begun now k b .bench) in (e .ranges ≡ b .ranges) × (e .corrections ≡ b .corrections)
 unfolding jobEnd begun stepAt ended
 start-then-end now res Zero b = (refl, refl)
@@ -189,7 +189,7 @@ toDrop k t = withCycle t (withSkip (t .cycle) k)
 abbrev pub usedAs : ℕ → Bench → Bench
 usedAs u t = withJob t (withUsed (t .job) u)
 
--- n more in a counter of 8 bits
+-- n more in a counter that stays at 255
 abbrev pub countMore : ℕ → ℕ → ℕ
 countMore zero u = u
 countMore (suc n) u = countMore n (countUp u)
@@ -236,7 +236,7 @@ module _ (c : Calibration) where
   unfolding servedBy
   counts-one now flags f t e g = is-served now flags f (toDrop 0 t) e ∙ rw (g)
 
-  -- the frames that a step drops: each counts as used, and nothing else changes but how many are left
+  -- the frames that a step drops: each counts as used, and nothing else of the bench changes but how many are left
   pub drops-all : (fs : List Frame) (u : ℕ) (t : Bench) → AllReady (placeIn (t .job)) fs → pollAll fs (toDrop (length fs) (usedAs u t)) ≡ toDrop 0 (usedAs (countMore (length fs) u) t)
   unfolding placeIn kindIn
   drops-all [] u t e = refl

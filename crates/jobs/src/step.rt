@@ -117,7 +117,7 @@ fn by_gain(verdict: GainVerdict, before: Bench) -> Served
     }
 }
 
-// The verdict on both rounds.
+// The gain job ends by the verdict on both rounds.
 fn judged(before: Bench) -> Served
     ensures { λ r. ⌜ r ≡ judged before ⌝ }
 {

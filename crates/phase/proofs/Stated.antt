@@ -1,4 +1,4 @@
--- What follows from the definitions: document 01's row of `cal_outcome`, the range of its steps, when nothing changes, the phase step after a calibration that ends other than well, and the trial step.
+-- What follows from the definitions: document 01's row of `cal_outcome`, the range of its steps, when nothing changes, the phase step where the end of a round ends a calibration other than well, and the trial step.
 use mathlib.Core.Path.{_≡_, refl, sym, ap, subst, _∙_}
 use mathlib.Core.Bool.{Bool, true, false, not, cond, _&&_, _||_}
 use Prim.Native.Nat.{_<_, _≤_}
@@ -91,7 +91,7 @@ module _ (c : PhaseCal) (req : Bool) where
       (cond active (record { «phase_cal» = notReactive c; «cal_req» = req }) (record { «phase_cal» = onTrial c (roundMean c); «cal_req» = true }))
       (record { «phase_cal» = finished c (roundMean c); «cal_req» = true })
 
-  -- a calibration that ends other than well: in round 1 the phase step stays, in round 2 it is put back
+  -- the end of a round ends a calibration other than well: in round 1 the phase step stays, in round 2 it is put back
   pub ends-otherwise : roundFull c ≡ true → let a = calAccounted c req .«phase_cal» in a .cal ≡ 0 → (a .«cal_res» ≡ calOk → ⊥) → a .sph ≡ cond (eqb (c .cal) 1) (c .sph) (c .«cal_s0»)
   unfolding calAccounted roundEnded notReactive onTrial finished
   ends-otherwise full = subst (λ (b : Bool). Restored (cond b (roundEnded c req) (same c req) .«phase_cal») (cond (eqb (c .cal) 1) (c .sph) (c .«cal_s0»))) (sym full)

@@ -13,8 +13,8 @@ use tables::constants::CAL_PF_MAX;
 use tables::constants::CAL_RANGE;
 use tables::constants::CAL_RUN;
 
-// What a calibration comes to: the phase step found; no null, where the two means hardly differ; or a
-// null beyond 127.49 steps to either side.
+// What a calibration comes to: the phase step found; no finite null, as where the two means hardly
+// differ; or a null beyond 127.49 steps to either side.
 pub enum CalOutcome {
     Steps(i8),
     Flat,

@@ -28,7 +28,7 @@ pub enum Place {
     ZeroD,
     // the zero of the LPF's voltage
     ZeroY,
-    // the V channel with its zero and without its gain
+    // the V channel less its zero, without its gain
     Raw,
     // the reference, a DC voltage
     RefDc,

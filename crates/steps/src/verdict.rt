@@ -24,7 +24,7 @@ pub enum RawVerdict {
 
 // Of the whole gain job.
 pub enum GainVerdict {
-    // the two rounds differ: JR_UNSTABLE
+    // the two rounds differ, or the half sum is not finite: JR_UNSTABLE
     Unstable,
     // the gain does not lie from 0.9 to 1.1: JR_RANGE
     Outside,
@@ -81,8 +81,8 @@ pub fn raw_verdict(dc: bool, vr: u8, a: f32, b: f32) -> RawVerdict
     RawVerdict::Fair
 }
 
-// Whether the two rounds differ, by their ratios r0 and r1, the half sum g of these, and whether the
-// raw means are steady.
+// Whether the two rounds differ, by their ratios r0 and r1, the half sum g of these, which must be
+// finite, and whether the raw means are steady.
 fn rounds_differ(r0: f32, r1: f32, g: f32, steady: bool) -> bool
     ensures { λ r. ⌜ r ≡ roundsDiffer r0 r1 g steady ⌝ }
 {
