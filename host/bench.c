@@ -1,115 +1,183 @@
-/* bench: nanoseconds per call of the functions of pw.h and of the leaves that compute. */
+/* bench: replays a recorded day of frames through the meter and writes the licence sheet.
+ *
+ * All figures come from libpw.a; what is here reads a recording (recording.h), makes its calls in their order
+ * (replay.h) and writes what the meter holds at the end (sheet.h). The sheet is written only where the whole
+ * recording was understood. Status 0; 1 where the recording is bad or the sheet cannot be written; 2 for wrong
+ * usage.
+ */
 #define _POSIX_C_SOURCE 200809L
-#include "leaves.h"
-#include "pw.h"
+#include "recording.h"
+#include "replay.h"
+#include "sheet.h"
 
+#include <errno.h>
+#include <inttypes.h>
 #include <stdio.h>
+#include <stdlib.h>
 #include <string.h>
-#include <time.h>
+#include <unistd.h>
 
-enum { CALLS = 20000000 };
+static const char usage[] =
+    "usage: bench [-q] [-o FILE] RECORDING\n"
+    "       bench --help | --version\n";
 
-static double seconds(void)
+static const char help[] =
+    "\n"
+    "Replays the recording of a day through the meter and writes the licence sheet:\n"
+    "energy, apparent energy, time counted, mean power, the zeros and gains that jobs\n"
+    "have earned, how each job ended, and the refusals met.\n"
+    "\n"
+    "  -o FILE    writes the sheet to FILE in place of standard output: whole, or not\n"
+    "             at all; a FILE that was there is then as it was\n"
+    "  -q         no progress on the terminal\n"
+    "  --help     this text\n"
+    "  --version  the version of the recordings that are read\n"
+    "\n"
+    "Status: 0; 1 where the recording is bad or the sheet cannot be written; 2 for\n"
+    "wrong usage.\n";
+
+struct options {
+    const char *recording;
+    const char *sheet; /* NULL for standard output */
+    bool quiet;
+};
+
+static int wrong_usage(const char *what, const char *which)
 {
-    struct timespec t;
-    clock_gettime(CLOCK_MONOTONIC, &t);
-    return (double)t.tv_sec + (double)t.tv_nsec * 1e-9;
+    fprintf(stderr, "bench: %s%s\n%s", what, which, usage);
+    return 2;
 }
 
-/* A float of every sign and size, not NaN and not infinite, from a counter. */
-static float some_float(uint32_t k)
+/* 0, or the status to end with. */
+static int read_options(int count, char **arguments, struct options *o)
 {
-    uint32_t bits = k * 2654435761u & 0xFF7FFFFFu;
-    float x;
-    memcpy(&x, &bits, sizeof x);
-    return x;
+    bool names_only = false;
+    *o = (struct options){NULL, NULL, false};
+    for (int k = 1; k < count; k++) {
+        const char *a = arguments[k];
+        if (names_only || a[0] != '-') {
+            if (o->recording != NULL)
+                return wrong_usage("one recording at a time: ", a);
+            o->recording = a;
+        } else if (strcmp(a, "--") == 0) {
+            names_only = true;
+        } else if (strcmp(a, "-q") == 0) {
+            o->quiet = true;
+        } else if (strcmp(a, "-o") == 0) {
+            if (++k == count)
+                return wrong_usage("no file behind ", a);
+            if (o->sheet != NULL)
+                return wrong_usage("one sheet at a time: ", arguments[k]);
+            o->sheet = arguments[k];
+        } else {
+            return wrong_usage("unknown option ", a);
+        }
+    }
+    return o->recording != NULL ? 0 : wrong_usage("no recording", "");
 }
 
-/* Times CALLS calls of EXPRESSION in k; the results are summed, so that none
- * is left out. The functions are in archives and are not inlined. */
-#define BENCH(name, type, expression)                                            \
-    do {                                                                         \
-        volatile type sum = 0;                                                   \
-        double start = seconds();                                                \
-        for (uint32_t k = 0; k < CALLS; k++)                                     \
-            sum = sum + (type)(expression);                                      \
-        printf("%-20s %6.2f ns\n", name, (seconds() - start) * 1e9 / CALLS);     \
-    } while (0)
+/* ---- progress ---- */
 
-/* A figure below 16, with a fraction, from a counter. */
-static float some_figure(uint32_t k)
+static void show_progress(const struct replay *p, double part)
 {
-    return (float)(k * 2654435761u >> 8) * 0x1p-20f;
+    if (p->frames % 2048 != 0)
+        return;
+    fprintf(stderr, "\r%3.0f %%  %zu frames  ", part * 100.0, p->frames);
+    write_clock(stderr, p->latest_time);
+    fprintf(stderr, "  %.3f W\033[K", (double)p->watts);
+    fflush(stderr);
 }
 
-static void bench_codes_and_numbers(void)
+static void clear_progress(void)
 {
-    static uint8_t frames[64][PW_FRAME_LENGTH];
-    for (uint32_t k = 0; k < sizeof frames; k++)
-        frames[k / PW_FRAME_LENGTH][k % PW_FRAME_LENGTH] = (uint8_t)(k * 2654435761u >> 24);
-    BENCH("pw_decode", uint64_t, pw_decode(frames[k % 64], PW_FRAME_LENGTH).rms);
-    BENCH("pw_cmp_window", uint64_t, pw_cmp_window((float)(k % 4096) * 0x1p-10f - 2.0f, some_float(~k)).r21);
-    BENCH("leaf_u64_to_f32", float, leaf_u64_to_f32(k * UINT64_C(0x9E3779B97F4A7C15)));
-    BENCH("leaf_i64_to_f32", float, leaf_i64_to_f32((int64_t)(k * UINT64_C(0x9E3779B97F4A7C15))));
-    BENCH("leaf_f32_to_i64", uint64_t, leaf_f32_to_i64(some_float(k)));
-    BENCH("leaf_f32_to_i32", uint64_t, leaf_f32_to_i32(some_float(k)));
-    BENCH("leaf_max", float, leaf_max(some_float(k), some_float(~k)));
-    BENCH("leaf_sqrt", float, leaf_sqrt((float)(k + 1)));
-    BENCH("leaf_hypot", float, leaf_hypot(some_float(k), some_float(~k)));
+    fputs("\r\033[K", stderr);
+    fflush(stderr);
 }
 
-/* The energies are never full: they get less than 2^29 J in all, and the time is below 2^63 ms. */
-static void bench_figures(void)
+/* ---- the sheet ---- */
+
+static int cannot_write(const char *name)
 {
-    struct pw_acc acc = pw_acc_fresh();
-    struct leaf_tally tally = leaf_fresh_tally();
-    BENCH("leaf_totals", float,
-          leaf_totals(some_figure(k), some_figure(~k), 1.0f, some_figure(3 * k), 0.25f, 0.0625f).q);
-    BENCH("leaf_ema", float, leaf_ema(1.0f, 0.25f, some_figure(k), some_figure(k + 1)));
-    BENCH("leaf_ema_rel", float, leaf_ema_rel(0.25f, 1.0f, some_figure(k), some_figure(k + 1)));
-    BENCH("pw_acc_add", uint64_t, pw_acc_add(&acc, some_figure(k)));
-    BENCH("pw_acc_wh", float, pw_acc_wh((struct pw_acc){k * INT64_C(0x9E3779B9), some_figure(k)}));
-    BENCH("leaf_accounting_step", uint64_t,
-          (tally = leaf_accounting_step(tally, 1000, some_figure(k), some_figure(~k), true).tally).t_int);
+    fprintf(stderr, "bench: %s: %s\n", name, strerror(errno));
+    return 1;
 }
 
-/* Frames of each path and of zero jobs, on a meter that is kept: some 1,000 bytes go in and out by value. */
-static void bench_frames(void)
+static int sheet_to_output(const struct recording *r, const struct replay *p)
 {
-    struct leaf_description d = {{1.0f, 1.0f}, {1.0f, 1.0f, 1.0f}, 1.0f, false};
-    struct leaf_pw b = leaf_pw_new(d, (struct leaf_calibration){.valid = false}), alt = b, dc = b;
-    alt.mode.alt = true;
-    dc.mode.dc = true;
-    BENCH("leaf_frame, B", uint64_t, (b = leaf_frame(b, k, 0x18, 0, k % 4096, k % 65536).pw).ring.ring_k);
-    BENCH("leaf_frame, alt", uint64_t, (alt = leaf_frame(alt, k, 0x18, 0, k % 4096, k % 65536).pw).ring.ring_k);
-    BENCH("leaf_frame, DC", uint64_t, (dc = leaf_frame(dc, k, 0x1C, k % 4096, k % 4096, k % 65536).pw).ring.ring_k);
-    struct leaf_pw job = leaf_job_start(b, 1, 0).pw;
-    BENCH("leaf_job_poll", uint64_t,
-          (job = job.job.job == 0 ? leaf_job_start(job, 1, k).pw
-                                  : leaf_job_poll(job, k, 0x1C, k % 1024, k % 1024, k % 65536).pw).job.used);
+    write_sheet(stdout, r, p);
+    return ferror(stdout) || fflush(stdout) != 0 ? cannot_write("standard output") : 0;
 }
 
-/* The formats; and the values of a meter that has measured all, with its readouts. */
-static void bench_values(void)
+/* Writes the sheet to the file `made`, which is removed again where that fails. */
+static bool sheet_to(const char *made, const struct recording *r, const struct replay *p)
 {
-    struct leaf_description d = {{1.0f, 1.0f}, {1.0f, 1.0f, 1.0f}, 1.0f, false};
-    struct leaf_pw pw = leaf_pw_new(d, (struct leaf_calibration){.valid = false});
-    pw.mode.on = true;
-    pw.mode.coup = 0;
-    pw.cycle.seen = 7;
-    pw.parts = (struct leaf_parts){.p_ac = 20.0f, .v_dc = 1.0f, .i_ac = 3.0f, .i_dc = 0.25f};
-    BENCH("pw_energy_format", float, pw_energy_format(some_float(k), (k & 1) != 0).number);
-    BENCH("pw_p_format", float, pw_p_format(some_float(k), some_figure(k), (k & 1) != 0).number);
-    BENCH("leaf_pw_vals, shown", float,
-          (pw.parts.v_ac = some_figure(k), leaf_reading_vals(leaf_pw_vals(pw).vals).main.number));
+    FILE *out = fopen(made, "w");
+    if (out == NULL)
+        return false;
+    write_sheet(out, r, p);
+    bool written = !ferror(out) && fflush(out) == 0 && fsync(fileno(out)) == 0;
+    int error = errno;
+    written = fclose(out) == 0 && written;
+    if (!written) {
+        remove(made);
+        errno = error != 0 ? error : errno;
+    }
+    return written;
 }
 
-int main(void)
+/* The whole sheet in a file beside `name`, which then takes its place. */
+static int sheet_to_file(const char *name, const struct recording *r, const struct replay *p)
 {
-    BENCH("(loop alone)", float, some_float(k));
-    bench_codes_and_numbers();
-    bench_figures();
-    bench_frames();
-    bench_values();
-    return 0;
+    size_t room = strlen(name) + sizeof ".tmp";
+    char *made = malloc(room);
+    if (made == NULL)
+        return cannot_write(name);
+    snprintf(made, room, "%s.tmp", name);
+    int status = 0;
+    if (!sheet_to(made, r, p)) {
+        status = cannot_write(made);
+    } else if (rename(made, name) != 0) {
+        status = cannot_write(name);
+        remove(made);
+    }
+    free(made);
+    return status;
+}
+
+static int bench(const struct options *o)
+{
+    struct recording recording;
+    struct replay replay = {.made = false};
+    bool shown = !o->quiet && isatty(STDERR_FILENO);
+    int status = 1;
+    if (recording_read(&recording, o->recording)) {
+        bool whole = replay_run(&replay, &recording, shown ? show_progress : NULL);
+        if (shown)
+            clear_progress();
+        if (whole)
+            status = o->sheet != NULL ? sheet_to_file(o->sheet, &recording, &replay) : sheet_to_output(&recording, &replay);
+    }
+    replay_free(&replay);
+    recording_free(&recording);
+    return status;
+}
+
+/* Ends with what standard output could take. */
+static int tell(const char *text, const char *more)
+{
+    return fputs(text, stdout) < 0 || fputs(more, stdout) < 0 || fflush(stdout) != 0 ? cannot_write("standard output") : 0;
+}
+
+int main(int count, char **arguments)
+{
+    struct options options;
+    if (count == 2 && strcmp(arguments[1], "--help") == 0)
+        return tell(usage, help);
+    if (count == 2 && strcmp(arguments[1], "--version") == 0) {
+        char version[64];
+        snprintf(version, sizeof version, "bench, reads %s %d\n", RECORDING_NAME, RECORDING_VERSION);
+        return tell(version, "");
+    }
+    int status = read_options(count, arguments, &options);
+    return status != 0 ? status : bench(&options);
 }

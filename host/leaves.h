@@ -9,6 +9,8 @@
 #ifndef LEAVES_H
 #define LEAVES_H
 
+#include "pw.h"
+
 #include <stdbool.h>
 #include <stddef.h>
 #include <stdint.h>
@@ -68,47 +70,35 @@ uint8_t leaf_coup_of(uint32_t c);
 /* The next coupling in the order DC, AC, AC+DC; DC after any other number. */
 uint8_t leaf_next_coupling(uint8_t c);
 
-/* What a meter is told of its hardware. Refusal 7 unless each of the six numbers is from 2^-20 to
- * 2^20, ends allowed; else 0. */
-struct leaf_description {
-    float mv_div[2];
-    float shunt[3];
-    float over;
-    bool a_auto;
-};
-uint8_t leaf_description_refusal(struct leaf_description d);
+/* Refusal 7 unless each of the six numbers is from 2^-20 to 2^20, ends allowed; else 0. */
+uint8_t leaf_description_refusal(struct pw_description d);
 
 /* The calibration of the `count` words at `words`, which can be read and are not written, with their
  * mark. Refusal 0; or 8 where they are not 73, with zeros and the mark off, and then no word is
  * read. `words` must not be NULL, not even for count 0. */
-enum { LEAF_WORDS = 73 };
-struct leaf_calibration {
-    uint32_t words[LEAF_WORDS];
-    bool valid;
-};
 struct leaf_calibration_answer {
     uint8_t refusal;
-    struct leaf_calibration calibration;
+    struct pw_calibration calibration;
 };
 struct leaf_calibration_answer leaf_calibration_of(const uint32_t *words, size_t count, bool valid);
 
 /* The number in the word at a byte offset, the one of index offset / 4; or `otherwise` where the mark
  * is off, the index is 73 or more, or the number is not finite or not below 1.0e6 in size. */
-float leaf_cal(struct leaf_calibration c, uint32_t offset, float otherwise);
+float leaf_cal(struct pw_calibration c, uint32_t offset, float otherwise);
 
 /* leaf_cal with 1.0 and with 0.0 for `otherwise`. */
-float leaf_factor(struct leaf_calibration c, uint32_t at);
-float leaf_offset(struct leaf_calibration c, uint32_t at);
+float leaf_factor(struct pw_calibration c, uint32_t at);
+float leaf_offset(struct pw_calibration c, uint32_t at);
 
 /* The V channel's gain by the factory's words, or 1.0 where that is not within 0.9 to 1.1. Range 0:
  * factor 04h * factor 38h / factor 08h; range r: factor 34h + 4 r. A range above 3 counts as 3. */
-float leaf_v_gain_factory(struct leaf_calibration c, uint8_t vr);
+float leaf_v_gain_factory(struct pw_calibration c, uint8_t vr);
 
 /* The gain in force: the one stored for the range where it is above zero, else the factory's. */
 struct leaf_gains {
     float vgain[4];
 };
-float leaf_v_gain(struct leaf_calibration c, struct leaf_gains g, uint8_t vr);
+float leaf_v_gain(struct pw_calibration c, struct leaf_gains g, uint8_t vr);
 
 /* The source's tables by index: vr is a V range, ik a current range, iu a current unit, ci a place as
  * of leaf_cal_index. An index past the end is held to the last entry; only the phase goes round. */
@@ -127,15 +117,7 @@ uint8_t leaf_cycle_at(uint8_t phase);
  * pm = p_ac + v_dc * i_dc, vm = leaf_hypot(v_ac, v_dc), i = leaf_hypot(i_ac, i_dc),
  * p = pm - i * i * r, v = leaf_sqrt(leaf_max(vm * vm - 2 * r * pm + r * r * i * i, 0)), s = v * i,
  * pf = p / s held to -1 and 1 where s > 0, else 0, and q = leaf_sqrt(leaf_max(s * s - p * p, 0)). */
-struct leaf_figures {
-    float p;
-    float s;
-    float q;
-    float pf;
-    float v;
-    float i;
-};
-struct leaf_figures leaf_totals(float p_ac, float v_ac, float v_dc, float i_ac, float i_dc, float r);
+struct pw_figures leaf_totals(float p_ac, float v_ac, float v_dc, float i_ac, float i_dc, float r);
 
 /* Smoothing of y toward x: x where abs(x - y) > win, else y + a * (x - y). */
 float leaf_ema(float win, float a, float x, float y);
@@ -143,32 +125,21 @@ float leaf_ema(float win, float a, float x, float y);
 /* leaf_ema with win = 0.05 * max(max(abs x, abs y), floor). */
 float leaf_ema_rel(float a, float floor, float x, float y);
 
-/* An energy: whole millijoules and a fraction of one. */
-struct leaf_acc {
-    int64_t mj;
-    float frac;
-};
-
 /* x = frac + millijoules in binary32 and w, x cut toward zero: refusal 0, the energy mj + w and x - w,
  * and w in `whole`. Or refusal 6, the energy as it was and `whole` 0, where x is not finite or not
  * -2^63 <= x < 2^63, or mj + w does not fit in 64 signed bits. */
 struct leaf_added {
     uint8_t refusal;
-    struct leaf_acc acc;
+    struct pw_acc acc;
     int64_t whole;
 };
-struct leaf_added leaf_acc_step(struct leaf_acc a, float millijoules);
+struct leaf_added leaf_acc_step(struct pw_acc a, float millijoules);
 
 /* leaf_acc_step with joules * 1000 in binary32. */
-struct leaf_added leaf_add_to(struct leaf_acc a, float joules);
+struct leaf_added leaf_add_to(struct pw_acc a, float joules);
 
-/* What is counted: an energy, an apparent energy, and the time in ms. */
-struct leaf_tally {
-    struct leaf_acc e;
-    struct leaf_acc va;
-    uint64_t t_int;
-};
-struct leaf_tally leaf_fresh_tally(void);
+/* Nothing counted. */
+struct pw_tally leaf_fresh_tally(void);
 
 /* One interval of dt ms; its seconds are dt to the nearest float, times 0.001. Where `active`, e gets
  * p * seconds joules, else it stays; va gets s * seconds, t_int gets dt, and `whole` is what was added
@@ -176,183 +147,24 @@ struct leaf_tally leaf_fresh_tally(void);
  * gets something is full or t_int + dt is not below 2^63. */
 struct leaf_accounted {
     uint8_t refusal;
-    struct leaf_tally tally;
+    struct pw_tally tally;
     int64_t whole;
 };
-struct leaf_accounted leaf_accounting_step(struct leaf_tally t, uint64_t dt, float p, float s, bool active);
+struct leaf_accounted leaf_accounting_step(struct pw_tally t, uint64_t dt, float p, float s, bool active);
 
 /* ---- the meter ---- */
 
-/* A time in ms where `set`, else none. */
-struct leaf_stamp {
-    bool set;
-    uint64_t at;
-};
-
-/* What the meter does: on, the alternating method, the coupling asked for (as of leaf_coup_of),
- * DC coupling in force, and that the host is to re-apply. */
-struct leaf_mode {
-    bool on;
-    bool alt;
-    uint8_t coup;
-    bool dc;
-    bool cal_req;
-};
-
-/* The V range and the current range, and whether each is found by itself. */
-struct leaf_ranges {
-    uint8_t vr;
-    uint8_t ik;
-    bool v_auto;
-    bool i_auto;
-};
-
-/* The phase; the results still to drop (skip_y those of the DC row's voltage); the results taken in
- * this phase of the alternating method; stat, which is R34 where the row is the power row (with
- * another row it is in no register); and the quantities marked as measured (1 power, 2 voltage, 4
- * current), of which an apply clears those that it does not keep. */
-struct leaf_cycle {
-    uint8_t phase;
-    uint8_t skip;
-    uint8_t skip_y;
-    uint8_t taken;
-    uint8_t stat;
-    uint8_t seen;
-};
-
-/* The smoothed values: W, V and A by AC and DC part; vac_dc is the AC volts in DC coupling. */
-struct leaf_parts {
-    float p_ac;
-    float v_ac;
-    float v_dc;
-    float i_ac;
-    float i_dc;
-    float vac_dc;
-};
-
-/* The powers of the next interval. */
-struct leaf_powers {
-    float p_tot;
-    float s_last;
-};
-
-/* Whether energy is counted, the last accounted frame's time, and the last frame's. */
-struct leaf_clock {
-    bool run;
-    struct leaf_stamp t_last;
-    uint64_t t_poll;
-};
-
-/* What the order `settings` brings. */
-struct leaf_settings {
-    bool comp;
-    float r_path[3];
-    float i_cont;
-    uint16_t t_lim;
-    uint8_t main;
-};
-
-/* The phase step in force (sph), and the phase calibration: 0 off, 1 or 2 for its two rounds; how
- * many power results this round has counted, and the sum of their p / (v_ac * i_ac); the step and
- * the mean of round 1; the result. */
-struct leaf_phase_cal {
-    int8_t sph;
-    uint8_t cal;
-    uint8_t cal_n;
-    float cal_acc;
-    int8_t cal_s0;
-    float cal_pa;
-    uint8_t cal_res;
-};
-
-/* The stored zeros (zx and zd by current range) with their mark, and the stored gain of each V
- * range, 0.0 where the factory's counts. */
-struct leaf_corrections {
-    int16_t zx[6];
-    int16_t zd[6];
-    int16_t zy;
-    bool zero_ok;
-    float vgain[4];
-};
-
-/* The running job (0 none), what it has measured, and the ranges and marks found at its start;
- * `used` counts the ready frames that it has used. */
-struct leaf_job {
-    uint8_t job;
-    uint8_t job_step;
-    uint8_t job_n;
-    float job_a;
-    float job_b;
-    bool job_dc;
-    float job_raw[2];
-    float job_ref[2];
-    int16_t job_zx[6];
-    int16_t job_zd[6];
-    struct leaf_ranges job_save;
-    uint8_t job_res;
-    uint8_t job_vr;
-    uint8_t job_last;
-    uint8_t used;
-};
-
-/* The comparator's source (R20 without its counter's bit, 02h) and window (R21), whether a frequency is to be had, and the V range that the
- * window was chosen for. */
-struct leaf_comparator {
-    uint8_t r20;
-    uint8_t r21;
-    bool f_ok;
-    uint8_t cmp_vr;
-};
-
-/* The sixteen latest conversions, the one of number n at n modulo 16: which result it was (R34 in
- * method B; 1 and 2 the alternating voltage and current; 3 and 4 the DC row's, where AD1 stands in
- * lpf), whether it was dropped, its codes, and the ms since the RMS and LPF result before it, held
- * to 65535 (0 for AD1). ring_k is the next number, t_res the last RMS and LPF result's time. */
-enum { LEAF_RING = 16 };
-struct leaf_ring {
-    uint8_t stat[LEAF_RING];
-    bool disc[LEAF_RING];
-    int64_t rms[LEAF_RING];
-    int32_t lpf[LEAF_RING];
-    uint16_t dt[LEAF_RING];
-    uint32_t ring_k;
-    uint64_t t_res;
-};
-
-/* The whole meter. `barred` is 0 where nothing is barred, else the coarsest unit (1 mA, 2 uA) of a
- * current range that tripped: it and the finer one are barred. over_t0 is since when the current is
- * above its limit. It is plain data: a copy of it is the same meter. */
-struct leaf_pw {
-    struct leaf_description description;
-    struct leaf_calibration calibration;
-    struct leaf_mode mode;
-    struct leaf_ranges ranges;
-    uint8_t barred;
-    struct leaf_cycle cycle;
-    struct leaf_parts parts;
-    struct leaf_powers powers;
-    struct leaf_tally tally;
-    struct leaf_clock clock;
-    struct leaf_stamp over_t0;
-    struct leaf_settings settings;
-    struct leaf_phase_cal phase_cal;
-    struct leaf_corrections corrections;
-    struct leaf_job job;
-    struct leaf_comparator comparator;
-    struct leaf_ring ring;
-};
-
 /* A meter with this description and these words, just made: the source's Pw::new, and beside it
  * nothing barred, no frame yet, and no ready frame used. Neither is refused here. */
-struct leaf_pw leaf_pw_new(struct leaf_description d, struct leaf_calibration c);
+struct pw_meter leaf_pw_new(struct pw_description d, struct pw_calibration c);
 
 /* The meter after a measuring step. `mark` is set where the host is to write the row at once, and
  * then is the deadline: the call's time and the settling time, held to the end of 64 bits.
  * `to_values` says whether the source goes on to pw_vals, which may still answer none (not all of
  * `seen` marked); then nothing is accounted. */
 struct leaf_outcome {
-    struct leaf_pw pw;
-    struct leaf_stamp mark;
+    struct pw_meter pw;
+    struct pw_stamp mark;
     bool to_values;
 };
 
@@ -361,14 +173,14 @@ struct leaf_outcome {
  * frame's time, ad1, lpf and rms are its codes. It tests neither `on` nor the job. The
  * description, the words, the mode, powers, tally, clock, over_t0, settings, corrections, job,
  * and of the phase calibration all but cal_n and cal_acc come back as they were. */
-struct leaf_outcome leaf_frame(struct leaf_pw pw, uint64_t now, uint8_t flags, int32_t ad1,
+struct leaf_outcome leaf_frame(struct pw_meter pw, uint64_t now, uint8_t flags, int32_t ad1,
                                 int32_t lpf, int64_t rms);
 
 /* The source's pw_apply outside a job: the row of the ranges and the method is to be written
  * anew, and the phases start again. Keep 2 keeps the voltage's part of `seen`, 4 the current's,
  * any other number none. Only the cycle and the comparator change; `mark` is set always, and
  * `to_values` is no. */
-struct leaf_outcome leaf_apply(struct leaf_pw pw, uint8_t keep, uint64_t now);
+struct leaf_outcome leaf_apply(struct pw_meter pw, uint8_t keep, uint64_t now);
 
 /* ---- jobs and the phase calibration ---- */
 
@@ -383,7 +195,7 @@ struct leaf_cal_outcome leaf_cal_outcome(float s);
 
 /* A phase start that is not refused: round 1 begins, with nothing counted, from the step in force, and
  * the result is CAL_RUN (1). sph and cal_pa come back as they were. */
-struct leaf_phase_cal leaf_cal_start(struct leaf_phase_cal before);
+struct pw_phase_cal leaf_cal_start(struct pw_phase_cal before);
 
 /* The phase calibration's part of the accounting step. It acts where one runs and 8 results or more are
  * counted, and then cal_n and cal_acc become 0. Round 1: a mean above 0.32 in size ends it with
@@ -393,17 +205,17 @@ struct leaf_phase_cal leaf_cal_start(struct leaf_phase_cal before);
  * more than 1e-7 a step: the step found is in force then, or where there is none that of the start.
  * cal_req becomes true at each of these ends but CAL_NOT_REACTIVE's, where it stays. */
 struct leaf_phase_step {
-    struct leaf_phase_cal phase_cal;
+    struct pw_phase_cal phase_cal;
     bool cal_req;
 };
-struct leaf_phase_step leaf_cal_account(struct leaf_phase_cal before, bool cal_req);
+struct leaf_phase_step leaf_cal_account(struct pw_phase_cal before, bool cal_req);
 
 /* The meter after a job's start, and the mark with the deadline: the call's time and the settling time of
  * the step that begins, which is 450 ms for the DC reference, 2000 ms for the AC one and else 550 ms, held
  * to the end of 64 bits. */
 struct leaf_started {
-    struct leaf_pw pw;
-    struct leaf_stamp mark;
+    struct pw_meter pw;
+    struct pw_stamp mark;
 };
 
 /* A job start that is not refused: kind 1 is the zero job, any other number the gain job. The ranges and
@@ -411,22 +223,22 @@ struct leaf_started {
  * result and sph stay), and step 0 begins, with no ready frame used; the mark is always set. A step begins
  * with its current range (the zero job's steps 0 to 11), the frames to drop in `skip`, `stat`, and sums of
  * nothing. It tests neither `on`, the job nor the method. */
-struct leaf_started leaf_job_start(struct leaf_pw pw, uint8_t kind, uint64_t now);
+struct leaf_started leaf_job_start(struct pw_meter pw, uint8_t kind, uint64_t now);
 
 /* A job start that is refused with 3: job_last is 1 or 2, by `kind` as of leaf_job_start, and job_res
  * JR_METHOD (9), nothing else. */
-struct leaf_pw leaf_job_turned_away(struct leaf_pw pw, uint8_t kind);
+struct pw_meter leaf_job_turned_away(struct pw_meter pw, uint8_t kind);
 
 /* The source's pw_job_end. Where a job runs none does any longer, job_res is `res`, the ranges and
  * automatic marks are those noted at its start, and cal_req is as `on`; else nothing changes. `used`
  * stays until the next start. */
-struct leaf_pw leaf_job_end(struct leaf_pw pw, uint8_t res);
+struct pw_meter leaf_job_end(struct pw_meter pw, uint8_t res);
 
 /* The meter after a frame, the mark (as of a start) where the next step has begun, and how many ready
  * frames the job has used, this one included if it is ready, also where it has ended the job. */
 struct leaf_polled {
-    struct leaf_pw pw;
-    struct leaf_stamp mark;
+    struct pw_meter pw;
+    struct pw_stamp mark;
     uint8_t used;
 };
 
@@ -435,130 +247,27 @@ struct leaf_polled {
  * description, the words, barred, parts, powers, tally, run, t_last, over_t0, settings, phase
  * calibration, comparator and ring come back as they were, and so do the corrections, unless the job ends
  * with JR_OK (2). */
-struct leaf_polled leaf_job_poll(struct leaf_pw pw, uint64_t now, uint8_t flags, int32_t ad1, int32_t lpf,
+struct leaf_polled leaf_job_poll(struct pw_meter pw, uint64_t now, uint8_t flags, int32_t ad1, int32_t lpf,
                                  int64_t rms);
 
-/* ---- the values of a meter ---- */
-
-/* The energies in Wh and VAh, the counted time in seconds, of which the low 32 bits are kept, and the
- * mean power over it in W. */
-struct leaf_energies {
-    float e_wh;
-    float vah;
-    uint32_t secs;
-    float p_avg;
-};
-
-/* What is in force: the alternating method (no where `dc`), DC coupling, the coupling asked for, the
- * burden taken off, energy being counted, the phase step, and what the main readout shows (0 power, 1
- * Wh, 2 VAh; any other number counts as 0 there). */
-struct leaf_in_force {
-    bool alt;
-    bool dc;
-    uint8_t coup;
-    bool comp;
-    bool run;
-    int8_t sph;
-    uint8_t main;
-};
-
-/* Whether the voltage or the current is above its range; the limit of the current: 0 below it, 1
- * above it with `over_left` seconds to go, 2 for too long. */
-struct leaf_limits {
-    bool v_ol;
-    bool i_ol;
-    uint8_t over;
-    uint16_t over_left;
-};
-
-/* In AC+DC coupling of method B the DC and AC parts of volts, amperes and watts, the source's vp, ip
- * and pp; else zeros. */
-struct leaf_split {
-    float v_dc;
-    float v_ac;
-    float i_dc;
-    float i_ac;
-    float p_dc;
-    float p_ac;
-};
-
-/* The source's PowerVals. In `hint` 1 says that AC+DC coupling has no AC part, 2 that DC coupling has
- * one. */
-struct leaf_power_vals {
-    struct leaf_figures load;
-    float vdc;
-    float idc;
-    bool f_ok;
-    float burden_v;
-    struct leaf_energies energies;
-    struct leaf_ranges ranges;
-    struct leaf_in_force in_force;
-    struct leaf_limits limits;
-    uint8_t hint;
-    struct leaf_split split;
-};
+/* ---- values and readouts; the others are in pw.h ---- */
 
 /* The source's PowerVals::ZERO, where f_ok is no and p_avg a NaN. */
-struct leaf_power_vals leaf_zero_vals(void);
-
-/* The source's pw_vals: not measured while off or before each quantity was seen, and then the values
- * are leaf_zero_vals(). Ranges past the tables are held to the last entry in what is computed, and
- * come back as they are. */
-struct leaf_vals {
-    bool measured;
-    struct leaf_power_vals vals;
-};
-struct leaf_vals leaf_pw_vals(struct leaf_pw pw);
-
-/* The source's pw_state: these values, or where there are none zeros with the ranges, the energies, the
- * time and what is in force. */
-struct leaf_power_vals leaf_pw_state(struct leaf_pw pw);
-
-/* A number as it is shown: its decimals, its unit by pw.h's number, and whether its range is passed,
- * and then the number is 0.0. */
-struct leaf_val {
-    float number;
-    uint8_t decimals;
-    uint8_t unit;
-    bool over;
-};
-
-/* The three readouts, and the main one's power in W or VA, 0.0 where a range is passed. */
-struct leaf_readouts {
-    struct leaf_val main;
-    struct leaf_val v;
-    struct leaf_val i;
-    float si;
-};
-struct leaf_readouts leaf_reading_vals(struct leaf_power_vals pv);
-
-/* The energy box: the energy where the main readout shows the power, else the power. */
-struct leaf_val leaf_energy_val(struct leaf_power_vals pv);
-
-/* The main value that the telephone is told: a power as volts, held to 65534 counts. */
-struct leaf_val leaf_bt_main(struct leaf_power_vals pv);
-
-/* The source's pw_partial, what is shown in place of a reading: text 0 nothing to show, 1
- * "Zeroing: leads open", 2 "V calibration...", 3 "I ranging...". Without volts their number is 0.0,
- * with 0 decimals, in unit 0 (V), not over. */
-struct leaf_partial {
-    uint8_t text;
-    bool with_volts;
-    struct leaf_val volts;
-};
-struct leaf_partial leaf_pw_partial(struct leaf_pw pw);
-
-/* On, counting energy, with a current that was seen and is above 50 uA. */
-bool leaf_integrating(struct leaf_pw pw);
-
-/* The telephone's mode byte: 40 for automatic, else 8 times the V range's number from 1 on; a range
- * above 3 counts as 3. */
-uint8_t leaf_bt_mode_byte(bool v_auto, uint8_t vr);
+struct pw_power_vals leaf_zero_vals(void);
 
 /* Plus zero where x times ten, `dec` times over in binary32, is below 0.5 in size; else x. */
 float leaf_no_neg_zero(float x, uint8_t dec);
 
 /* Rust's signum: 1.0 or -1.0 by the sign bit, also of a zero; a NaN for a NaN. */
 float leaf_signum(float x);
+
+/* ---- where the values of a meter lie ---- */
+
+/* A meter in which every value has a number of its own: 1, 2, 3 and so on in the order of declaration,
+ * 128 as a signed byte being -128; the bools are yes and no in turn. */
+struct pw_meter leaf_numbered_meter(void);
+
+/* Whether every value of a meter is the one that it has there. */
+bool leaf_is_numbered(struct pw_meter pw);
 
 #endif

@@ -1,8 +1,5 @@
 #include "words.h"
 
-#include <inttypes.h>
-#include <math.h>
-#include <stdio.h>
 #include <string.h>
 
 /* ---- words ---- */
@@ -82,14 +79,25 @@ bool read_bytes(struct word w, uint8_t *bytes, size_t count)
     return true;
 }
 
-/* Exactly 8 hex digits, the first one the highest. */
+/* One or more hex digits, the first one the highest, not above `most`; a plus sign is allowed. */
+static bool read_hex(struct word w, uint32_t most, uint32_t *n)
+{
+    uint32_t sum = 0;
+    take(&w, '+');
+    for (size_t k = 0; k < w.length; k++) {
+        unsigned digit;
+        if (!read_hex_digit(w.at[k], &digit) || sum > (most - digit) / 16)
+            return false;
+        sum = 16 * sum + digit;
+    }
+    *n = sum;
+    return w.length > 0;
+}
+
+/* Exactly 8 characters: hex digits, or a plus sign and 7 of them. */
 static bool read_bits(struct word w, uint32_t *bits)
 {
-    uint8_t b[4];
-    if (!read_bytes(w, b, 4))
-        return false;
-    *bits = (uint32_t)b[0] << 24 | (uint32_t)b[1] << 16 | (uint32_t)b[2] << 8 | b[3];
-    return true;
+    return w.length == 8 && read_hex(w, UINT32_MAX, bits);
 }
 
 bool read_float(struct word w, float *x)
@@ -195,7 +203,7 @@ static bool read_zeros(struct word w, struct calibration_words *words)
     if (!read_unsigned(w, UINT64_MAX, &count))
         return false;
     memset(words->at, 0, sizeof words->at);
-    words->count = count <= LEAF_WORDS ? (size_t)count : LEAF_WORDS + 1;
+    words->count = count <= PW_CALIBRATION ? (size_t)count : PW_CALIBRATION + 1;
     return true;
 }
 
@@ -212,147 +220,48 @@ bool read_calibration_words(struct word w, struct calibration_words *words)
         uint32_t bits;
         if (!read_bits((struct word){w.at + k, 8}, &bits))
             return false;
-        if (words->count <= LEAF_WORDS)
+        if (words->count <= PW_CALIBRATION)
             words->at[words->count++] = bits;
     }
     return true;
 }
 
-/* ---- writing ---- */
-
-/* What stands before the float, and the float. */
-static void print_after(const char *before, float x)
+bool read_flags(struct word w, uint8_t *flags)
 {
-    uint32_t bits;
-    memcpy(&bits, &x, sizeof bits);
-    if (isnan(x))
-        printf("%snan", before);
+    uint32_t wide;
+    if (!read_hex(w, UINT8_MAX, &wide))
+        return false;
+    *flags = (uint8_t)wide;
+    return true;
+}
+
+bool read_range(struct word w, uint16_t *range)
+{
+    uint8_t number;
+    if (word_is(w, "k"))
+        *range = PW_KEEP;
+    else if (word_is(w, "a"))
+        *range = PW_AUTO;
+    else if (read_u8(w, &number))
+        *range = number;
     else
-        printf("%s%08" PRIx32, before, bits);
-}
-
-/* A space, and the float. */
-static void print_float(float x)
-{
-    print_after(" ", x);
-}
-
-/* A space, then number, decimals, unit and over mark with commas between. */
-static void print_val(struct leaf_val v)
-{
-    print_float(v.number);
-    printf(",%d,%s,%d", v.decimals, pw_unit_name(v.unit), v.over);
-}
-
-bool write_floats(const float *x, size_t count)
-{
-    putchar('=');
-    for (size_t k = 0; k < count; k++)
-        print_float(x[k]);
-    putchar('\n');
+        return false;
     return true;
 }
 
-bool write_float(float x)
+bool read_frame(struct word w, struct frame_bytes *frame)
 {
-    return write_floats(&x, 1);
-}
-
-bool write_int(int64_t n)
-{
-    printf("= %" PRId64 "\n", n);
-    return true;
-}
-
-bool write_pair(uint8_t a, uint8_t b)
-{
-    printf("= %d %d\n", a, b);
-    return true;
-}
-
-bool write_found(bool found, uint8_t code)
-{
-    if (found)
-        printf("= %02x\n", code);
-    else
-        printf("= none\n");
-    return true;
-}
-
-bool write_outcome(bool found, uint8_t number, int8_t steps)
-{
-    printf("= %s %d\n", found ? "ok" : "err", found ? steps : number);
-    return true;
-}
-
-bool write_energy(bool fits, int64_t mj, float frac)
-{
-    if (fits) {
-        printf("= %" PRId64, mj);
-        print_float(frac);
-        putchar('\n');
-    } else {
-        printf("= full\n");
+    uint8_t byte;
+    frame->count = 0;
+    if (word_is(w, "-"))
+        return true;
+    if (w.length % 2 != 0)
+        return false;
+    for (size_t k = 0; k < w.length; k += 2) {
+        if (!read_bytes((struct word){w.at + k, 2}, &byte, 1))
+            return false;
+        if (frame->count <= PW_FRAME_LENGTH)
+            frame->at[frame->count++] = byte;
     }
-    return true;
-}
-
-bool write_format(struct pw_format f)
-{
-    putchar('=');
-    print_float(f.number);
-    printf(" %d %s\n", f.decimals, pw_unit_name(f.unit));
-    return true;
-}
-
-bool write_readouts(struct leaf_readouts r, struct leaf_val energy, struct leaf_val bt)
-{
-    putchar('=');
-    print_val(r.main);
-    print_val(r.v);
-    print_val(r.i);
-    print_float(r.si);
-    print_val(energy);
-    print_val(bt);
-    putchar('\n');
-    return true;
-}
-
-bool write_values(struct leaf_power_vals pv)
-{
-    putchar('=');
-    print_after(" p=", pv.load.p);
-    print_after(" s=", pv.load.s);
-    print_after(" q=", pv.load.q);
-    print_after(" pf=", pv.load.pf);
-    print_after(" v=", pv.load.v);
-    print_after(" i=", pv.load.i);
-    print_after(" vdc=", pv.vdc);
-    print_after(" idc=", pv.idc);
-    printf(" f_ok=%d", pv.f_ok);
-    print_after(" burden_v=", pv.burden_v);
-    print_after(" e_wh=", pv.energies.e_wh);
-    print_after(" vah=", pv.energies.vah);
-    printf(" secs=%" PRIu32, pv.energies.secs);
-    print_after(" p_avg=", pv.energies.p_avg);
-    printf(" vr=%d ik=%d v_auto=%d i_auto=%d", pv.ranges.vr, pv.ranges.ik, pv.ranges.v_auto, pv.ranges.i_auto);
-    struct leaf_in_force now = pv.in_force;
-    struct leaf_limits limits = pv.limits;
-    printf(" alt=%d dc=%d coup=%d comp=%d run=%d", now.alt, now.dc, now.coup, now.comp, now.run);
-    printf(" v_ol=%d i_ol=%d over=%d over_left=%d", limits.v_ol, limits.i_ol, limits.over, limits.over_left);
-    printf(" sph=%d main=%d hint=%d", now.sph, now.main, pv.hint);
-    print_after(" vp=", pv.split.v_dc);
-    print_after(",", pv.split.v_ac);
-    print_after(" ip=", pv.split.i_dc);
-    print_after(",", pv.split.i_ac);
-    print_after(" pp=", pv.split.p_dc);
-    print_after(",", pv.split.p_ac);
-    putchar('\n');
-    return true;
-}
-
-bool write_refusal(uint8_t refusal)
-{
-    printf("%d mark=- used=0 reading=0\n", refusal);
     return true;
 }

@@ -1,8 +1,7 @@
-/* words.h: the words of a line of the script protocol, read and written. */
+/* words.h: the words of a line of the script protocol, and what they mean. */
 #ifndef WORDS_H
 #define WORDS_H
 
-#include "leaves.h"
 #include "pw.h"
 
 #include <stdbool.h>
@@ -30,7 +29,8 @@ size_t split(struct word line, struct word *words, size_t most);
 /* Exactly `count` bytes of two hex digits each. */
 bool read_bytes(struct word w, uint8_t *bytes, size_t count);
 
-/* The bits of a float as 8 hex digits, or `nan`. */
+/* The bits of a float as 8 hex digits, or as a plus sign and 7 of them, which Rust's parser takes; or
+ * `nan`. */
 bool read_float(struct word w, float *x);
 
 /* A float from each of `count` words. */
@@ -50,39 +50,27 @@ bool read_i64(struct word w, int64_t *n);
 /* Calibration words. Of more than a calibration has only one more is kept, and
  * `count` is then that many: enough to know that they are too many. */
 struct calibration_words {
-    uint32_t at[LEAF_WORDS + 1];
+    uint32_t at[PW_CALIBRATION + 1];
     size_t count;
 };
 
-/* 8 hex digits for each word, run together; or zN for N zeros; or - for none. */
+/* 8 characters for each word, as of a float, run together; or zN for N zeros; or - for none. */
 bool read_calibration_words(struct word w, struct calibration_words *words);
 
-/* ---- writing: always true, so that a handler ends with it ---- */
+/* The flags of a frame: Rust's parse of a byte in base 16, so hex digits, as many as one likes, in the
+ * byte's range; a plus sign is allowed. */
+bool read_flags(struct word w, uint8_t *flags);
 
-bool write_float(float x);
-bool write_floats(const float *x, size_t count);
-bool write_int(int64_t n);
-bool write_pair(uint8_t a, uint8_t b);
+/* A range asked for: k, a, or a byte as of read_u8. */
+bool read_range(struct word w, uint16_t *range);
 
-/* Two hex digits, or `none` where nothing was found. */
-bool write_found(bool found, uint8_t code);
+/* The bytes of a frame. Of more than a frame has only one more is kept, as of calibration words. */
+struct frame_bytes {
+    uint8_t at[PW_FRAME_LENGTH + 1];
+    size_t count;
+};
 
-/* `ok` and the steps where they were found, else `err` and the number that says why not. */
-bool write_outcome(bool found, uint8_t number, int8_t steps);
-
-/* Millijoules and the fraction, or `full` where an addition did not fit. */
-bool write_energy(bool fits, int64_t mj, float frac);
-
-/* The number, the decimals and the name of the unit. */
-bool write_format(struct pw_format f);
-
-/* The three readouts and the power in W or VA, the energy box and the telephone's value. */
-bool write_readouts(struct leaf_readouts r, struct leaf_val energy, struct leaf_val bt);
-
-/* Values of a meter, each behind its name. */
-bool write_values(struct leaf_power_vals pv);
-
-/* The answer to a call that gives no mark, used no frame and has no reading. */
-bool write_refusal(uint8_t refusal);
+/* Two hex digits for each byte, run together; or - for none. */
+bool read_frame(struct word w, struct frame_bytes *frame);
 
 #endif

@@ -1,5 +1,5 @@
 # shellcheck shell=bash
-# Sourced by the scripts of this folder and by host/bench.sh, from the repository's root.
+# Sourced by the scripts of this folder and by host/speed.sh, from the repository's root.
 # tests/served holds the names of the functions that pwscript serves. The lines of these functions are
 # compared, and the `meter` lines between them, from which some of them read; nothing else says which.
 
@@ -25,13 +25,13 @@ plain_meter() {
 
 # served_lines SEED LINES: that many lines, from `pwgen funcs SEED`: those of served functions, and every
 # `meter` line between them, which counts as a line. The first line makes a plain meter, since the one
-# that pwgen starts with may be refused, and `f v_gain` asks for a meter; the second is `f zero`, which has
-# no argument and is not drawn. pwgen is asked for twice as many lines, since it may draw other functions as
+# that pwgen starts with may be refused, and `f v_gain` asks for a meter; then come lines of the functions
+# that are not drawn. pwgen is asked for twice as many lines, since it may draw other functions as
 # well.
 served_lines() {
     "$oracle_folder/pwgen" funcs "$1" $((2 * $2 + 1000)) | awk -v lines="$2" -v meter="$(plain_meter)" '
         function take(line) { if (n < lines) { print line; n++ } }
-        BEGIN { take(meter); take("f zero") }
+        BEGIN { take(meter); take("f zero"); take("f ring_text"); take("f coup_name 3") }
         NR == FNR { served[$1]; next }
         $1 == "meter" || $1 == "f" && ($2 in served) { take($0) }' tests/served -
 }
@@ -46,14 +46,51 @@ questions() {
     grep -a -v -e '^#' -e '^$' "$1"
 }
 
+# The next answer of a file, for awk: its line and those that go on with it, a reading or the rest of a dump.
+next_answer='
+    function answer(file,    whole, line) {
+        if (!(file in ahead) && (getline line < file) > 0) ahead[file] = line
+        if (!(file in ahead)) return "(no answer)"
+        whole = ahead[file]
+        delete ahead[file]
+        while ((getline line < file) > 0) {
+            if (line !~ /^(R |D[1-9])/) { ahead[file] = line; break }
+            whole = whole "\n           " line
+        }
+        return whole
+    }'
+
 # first_difference QUESTIONS EXPECTED GOT
 first_difference() {
-    awk -v expected="$2" -v got="$3" '
+    awk -v expected="$2" -v got="$3" "$next_answer"'
         {
-            if ((getline e < expected) <= 0) e = "(no answer)"
-            if ((getline g < got) <= 0) g = "(no answer)"
+            e = answer(expected)
+            g = answer(got)
             if (e "" != g "") { printf "line %d: %s\n  expected %s\n  got      %s\n", NR, $0, e, g; exit }
         }' "$1"
+}
+
+# first_question QUESTIONS EXPECTED GOT: the number of the first one that is answered differently.
+first_question() {
+    awk -v expected="$2" -v got="$3" "$next_answer"'
+        { if (answer(expected) "" != answer(got) "") { found = NR; exit } }
+        END { print found ? found : NR }' "$1"
+}
+
+# calls SCRIPT: the calls to a meter among its lines; the order `set` is not among them, since pwscript does not
+# serve it.
+calls() {
+    grep -a -E '^(meter|on|off|method|ranges|coupling|zero|gain|phase|ereset|run|reapply|frame)( |$)' "$1"
+}
+
+# with_hashes CALLS: each call, and behind it `hash`.
+with_hashes() {
+    sed 'a hash' "$1"
+}
+
+# answered ANSWERS: how many answers there are.
+answered() {
+    grep -a -c -v -e '^R ' -e '^D[1-9]' "$1"
 }
 
 # same_answers QUESTIONS EXPECTED GOT: true if there is a question, both have one answer to each of
@@ -64,16 +101,38 @@ same_answers() {
     [ "$lines" -gt 0 ] || { echo "there is no question"; return 1; }
     if ! cmp -s "$2" "$3"; then
         first_difference "$1" "$2" "$3"
-        echo "$lines questions, $(wc -l < "$2") answers expected, $(wc -l < "$3") got"
+        echo "$lines questions, $(answered "$2") answers expected, $(answered "$3") got"
         return 1
     fi
     for file in "$2" "$3"; do
-        [ "$(wc -l < "$file")" -eq "$lines" ] || { echo "not $lines answers in $file"; return 1; }
+        [ "$(answered "$file")" -eq "$lines" ] || { echo "not $lines answers in $file"; return 1; }
         if bad=$(grep -a -n -m 1 -e '^?$' -e PANIC -e '^$' "$file"); then
             echo "no figure in $file, line $bad"
             return 1
         fi
     done
+}
+
+# What calls of every kind meet: the refusals, each end that a job of each kind and a phase calibration can have, and
+# the paths that a frame can take.
+every_case=(refusal\ {1..8} "end zero "{OK,SIGNAL,ABORT,METHOD} "end gain "{OK,SMALL,BIG,UNSTABLE,RANGE,ABORT,METHOD}
+    "path "{B,alternating,DC,job} "phase "{OK,FLAT,NOT_REACTIVE,RANGE})
+
+# oracle_answers QUESTIONS MET: the published Rust's answers, and what was met is added to MET (tests/coverage.c).
+# shellcheck disable=SC2094 # QUESTIONS are read twice, not written
+oracle_answers() {
+    "$oracle_folder/pworacle" --dump < "$1" | build/coverage "$1" "$2"
+}
+
+# summed MET: what was met, each with the sum of its numbers.
+summed() {
+    awk '{ n = $1; sub(/^[0-9]+ /, ""); sum[$0] += n } END { for (what in sum) print what " " sum[what] }' "$1" | sort -V
+}
+
+# not_met SUMMED: each case that is not in it.
+not_met() {
+    local what
+    for what in "${every_case[@]}"; do grep -q "^$what " "$1" || echo "$what"; done
 }
 
 # frame_script SEED SIGNALS LIMITS [SEED..]: a plain meter, so many calls of physical signals, jobs and orders

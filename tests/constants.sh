@@ -2,18 +2,21 @@
 # tests/constants.sh: the constants of crates/tables are spelled as in the published Rust: those of
 # constants.rt under the same name, and of window.rt the comparator's two tables, whose pairs are two
 # arrays here, and M. White space, underscores in numbers and the case of their letters do not count.
-# The names of the units in pw.h are those that the published functions use, the micro sign as u, and so are
-# the texts of pw_partial in tests/shown.h. It only reads the published text, ../shared/docs/src.
+# So are those of pw.h, where its names follow the published ones, the flags' bits too. The names of the units
+# in pw_names.c are those that the published functions use, the micro sign as u, and so are the texts of
+# pw_partial there and in tests/shown.h. It only reads the published text, ../shared/docs/src.
 set -u -o pipefail
 cd "$(dirname "$0")/.." || exit 1
 . tests/answers.sh
 
 published=../shared/docs/src/firmware/src/powermeter.rs
+chip=../shared/docs/src/firmware/src/hy3131.rs
 constants=crates/tables/src/constants.rt
 window=crates/tables/src/window.rt
 header=include/pw.h
+names=host/pw_names.c
 shown=tests/shown.h
-for file in "$published" "$constants" "$window" "$header" "$shown"; do [ -f "$file" ] || fail "$file is not there"; done
+for file in "$published" "$chip" "$constants" "$window" "$header" "$names" "$shown"; do [ -f "$file" ] || fail "$file is not there"; done
 
 # The one name that the published text does not have: there its number, 450, has no name.
 own_name=VCAL_DC_SETTLE_MS
@@ -77,6 +80,22 @@ for table in CMP_RH CMP_RL; do
 done
 same M "$(value M <<< "$tables")"
 
+# Those of pw.h: PW_ and the published name, but that the published text calls the gain job JOB_VCAL and has no
+# names for no job and no hint.
+while read -r name number; do
+    case $name in
+        JOB_NONE | HINT_NONE) ;;
+        JOB_GAIN) same JOB_VCAL "${number,,}" ;;
+        *) same "$name" "${number,,}" ;;
+    esac
+done < <(sed -nE 's/^#define PW_((MAIN|R34|R20|COUP|JR|CAL|HINT|JOB)_[A-Z0-9_]+) ([0-9A-Fx]+).*/\1 \3/p' "$header")
+same RING_N "$(sed -n 's/^enum { PW_RING = \([0-9]*\) };$/\1/p' "$header")"
+theirs=$(declared "$chip")
+for flag in INTF_AD1 INTF_LPF INTF_RMS; do
+    number=$(sed -nE "s/^#define PW_$flag (0x[0-9A-F]+).*/\\1/p" "$header")
+    for bit in 0 1 2 3 4 5 6 7; do [ "$((number))" -ne $((1 << bit)) ] || same "$flag" "1<<$bit"; done
+done
+
 # literals: the string literals of the lines read, each once, without their marks, the micro sign as u.
 # Comments are left out.
 literals() { sed 's,//.*,,' | grep -o '"[^"]*"' | sed 's/^"//; s/"$//; s/\\u{b5}/u/' | sort -u; }
@@ -97,13 +116,15 @@ same_texts() {
     echo "$1: ours are $(paste -s -d , <<< "$3"), the published text's $(paste -s -d , <<< "$4")"
 }
 array() { sed -n "/$1\[.*\] = {/,/};/p" "$2"; }
+named() { sed -n "/^const char \*$1(/,/^}/p" "$names" | grep '\[PW_'; }
 units=$(for name in energy_format p_format reading_vals bt_main; do body "$name"; done | literals)
-same_texts "names of units" 16 "$(array 'const names' "$header" | literals)" "$units"
+same_texts "names of units" 16 "$(named pw_unit_name | literals)" "$units"
 texts=$(body pw_partial | literals | grep -v '^V$')
-same_texts "texts of pw_partial" 3 "$(array 'const partial_texts' "$shown" | literals | grep .)" "$texts"
+same_texts "texts of pw_partial" 3 "$(named pw_partial_name | literals | grep .)" "$texts"
+same_texts "texts of pw_partial in $shown" 3 "$(array 'const partial_texts' "$shown" | literals | grep .)" "$texts"
 
 # All that constants.rt declares was read, and that is not too little.
 [ "$(grep -c '^pub const ' "$constants")" -eq "$(wc -l <<< "$ours")" ] || fail "not every constant of $constants was read"
-[ "$compared" -ge 79 ] || fail "only $compared constants were compared"
+[ "$compared" -ge 117 ] || fail "only $compared constants were compared"
 echo "constants: $compared compared with the published text, $failed differ"
 [ "$failed" -eq 0 ]

@@ -34,18 +34,18 @@ struct field {
 };
 
 #define FIELD(role, kind, key, member, count, first, step) \
-    {key, offsetof(struct leaf_pw, member), kind, role, count, first, step}
+    {key, offsetof(struct pw_meter, member), kind, role, count, first, step}
 #define PART(role, kind, key, member, first) FIELD(role, kind, key, member, 1, first, 1)
 #define ONE(role, kind, group, name) PART(role, kind, #name, group.name, 0)
 #define MANY(role, kind, group, name, count) FIELD(role, kind, #name, group.name, count, 0, 1)
-#define SLOTS(kind, name, first) FIELD(SHOWN, kind, "ring", ring.name, LEAF_RING, first, 5)
+#define SLOTS(kind, name, first) FIELD(SHOWN, kind, "ring", ring.name, PW_RING, first, 5)
 
 static const struct field fields[] = {
     MANY(MADE, F32, description, mv_div, 2),
     MANY(MADE, F32, description, shunt, 3),
     ONE(MADE, F32, description, over),
     ONE(MADE, BOOL, description, a_auto),
-    MANY(MADE, U32, calibration, words, LEAF_WORDS),
+    MANY(MADE, U32, calibration, words, PW_CALIBRATION),
     ONE(MADE, BOOL, calibration, valid),
     ONE(SHOWN, BOOL, mode, on),
     ONE(SHOWN, BOOL, mode, alt),
@@ -183,7 +183,7 @@ static inline void put_value(const struct field *f, uint64_t value)
 }
 
 /* A time counts only where it is set. */
-static inline bool same_stamp(struct leaf_stamp a, struct leaf_stamp b)
+static inline bool same_stamp(struct pw_stamp a, struct pw_stamp b)
 {
     return a.set == b.set && (!a.set || a.at == b.at);
 }
@@ -209,7 +209,7 @@ static inline size_t differences_in(const struct field *table, size_t length, co
 }
 
 /* The same of two meters. */
-static inline size_t differences(const struct leaf_pw *expected, const struct leaf_pw *got,
+static inline size_t differences(const struct pw_meter *expected, const struct pw_meter *got,
                                  const char *what, size_t most)
 {
     return differences_in(fields, FIELDS, expected, got, what, most);

@@ -69,7 +69,7 @@ static bool shows(void)
     return shown++ < MOST_SHOWN;
 }
 
-static bool same_mark(struct leaf_stamp expected, struct leaf_stamp got)
+static bool same_mark(struct pw_stamp expected, struct pw_stamp got)
 {
     if (same_stamp(expected, got))
         return true;
@@ -116,7 +116,7 @@ static bool ranged(const struct call *c)
  * the alternating method one more result was taken, in method B the next phase has begun. */
 static bool went_on(const struct call *c, uint8_t flags)
 {
-    const struct leaf_pw *b = &c->before, *a = &c->after;
+    const struct pw_meter *b = &c->before, *a = &c->after;
     if (ranged(c) || b->cycle.skip > 0 || !has(flags, b->mode.dc ? AD1 : RMS_LPF))
         return false;
     if (b->mode.dc)
@@ -125,7 +125,7 @@ static bool went_on(const struct call *c, uint8_t flags)
 }
 
 /* Whether the values are complete, so that a frame that is accounted gives a reading. */
-static bool is_complete(const struct leaf_pw *pw)
+static bool is_complete(const struct pw_meter *pw)
 {
     return has(pw->cycle.seen, pw->mode.alt && !pw->mode.dc ? 6 : 7);
 }
@@ -133,7 +133,7 @@ static bool is_complete(const struct leaf_pw *pw)
 /* The eighth of a phase calibration's results, which the accounting step has taken away. */
 static bool cal_full(const struct call *c)
 {
-    const struct leaf_phase_cal *b = &c->before.phase_cal, *a = &c->after.phase_cal;
+    const struct pw_phase_cal *b = &c->before.phase_cal, *a = &c->after.phase_cal;
     return b->cal != 0 && b->cal_n == 7 && a->cal_n == 0 && c->reading;
 }
 
@@ -149,7 +149,7 @@ static struct leaf_outcome expected_frame(const struct call *c, uint8_t flags)
 
 /* Of the eighth result the dump shows only what the accounting step made of it, which is compared by
  * check_account. */
-static void restore_eight(struct leaf_pw *expected, const struct leaf_pw *got)
+static void restore_eight(struct pw_meter *expected, const struct pw_meter *got)
 {
     expected->phase_cal.cal_n = 8;
     expected->phase_cal.cal_acc = got->phase_cal.cal_acc;
@@ -158,7 +158,7 @@ static void restore_eight(struct leaf_pw *expected, const struct leaf_pw *got)
 /* Whether a frame that changed no range had a result by which the current's may change. */
 static bool tests_current(const struct call *c, uint8_t flags)
 {
-    const struct leaf_pw *b = &c->before;
+    const struct pw_meter *b = &c->before;
     if (!went_on(c, flags))
         return false;
     if (b->mode.dc)
@@ -168,7 +168,7 @@ static bool tests_current(const struct call *c, uint8_t flags)
 
 static void count_ranges(const struct call *c, uint8_t flags)
 {
-    const struct leaf_ranges *b = &c->before.ranges, *a = &c->after.ranges;
+    const struct pw_ranges *b = &c->before.ranges, *a = &c->after.ranges;
     count(V_UP, a->vr > b->vr);
     count(V_DOWN, a->vr < b->vr);
     count(V_BEFORE_AD1, c->before.mode.dc && a->vr != b->vr && has(flags, AD1));
@@ -184,7 +184,7 @@ static void count_ranges(const struct call *c, uint8_t flags)
 
 static void count_comparator(const struct call *c, uint8_t flags)
 {
-    const struct leaf_pw *b = &c->before, *a = &c->after;
+    const struct pw_meter *b = &c->before, *a = &c->after;
     bool selected = !b->mode.dc && !b->mode.alt && went_on(c, flags) && b->cycle.stat != XY
                     && has(a->cycle.seen, 6);
     count(WINDOW, selected && a->comparator.f_ok && a->comparator.r20 == 0x10);
@@ -194,7 +194,7 @@ static void count_comparator(const struct call *c, uint8_t flags)
 
 static void count_results(const struct call *c, uint8_t flags)
 {
-    const struct leaf_pw *b = &c->before, *a = &c->after;
+    const struct pw_meter *b = &c->before, *a = &c->after;
     bool dc = b->mode.dc, alt = b->mode.alt && !dc;
     bool ready = has(flags, RMS_LPF), on = went_on(c, flags);
     bool down = !dc && ready && b->cycle.skip == 0 && !ranged(c) && !on;
@@ -211,7 +211,7 @@ static void count_results(const struct call *c, uint8_t flags)
     count(GAINS, on && !alt && b->corrections.vgain[b->ranges.vr] > 0.0f);
     count(WORDS, on && b->calibration.valid);
     count(SMOOTHED, on && has(b->cycle.seen, 7));
-    count(LONG_AGO, ready && a->ring.dt[b->ring.ring_k % LEAF_RING] == UINT16_MAX);
+    count(LONG_AGO, ready && a->ring.dt[b->ring.ring_k % PW_RING] == UINT16_MAX);
     count(CLOCK_BACK, ready && a->ring.t_res <= b->ring.t_res);
     count(CAL_COUNTED, a->phase_cal.cal_n > b->phase_cal.cal_n);
     count(CAL_FULL, cal_full(c));
@@ -244,9 +244,9 @@ static void check_frame(const struct call *c)
 
 /* What an order sets before it applies, in `pw`, where no job runs any longer; and in `keep` 2 or 4,
  * where the voltage's or the current's parts are kept. False where it does not apply. */
-typedef bool order(const struct call *c, struct leaf_pw *pw, uint8_t *keep);
+typedef bool order(const struct call *c, struct pw_meter *pw, uint8_t *keep);
 
-static bool on(const struct call *c, struct leaf_pw *pw, uint8_t *keep)
+static bool on(const struct call *c, struct pw_meter *pw, uint8_t *keep)
 {
     (void)c, (void)keep;
     pw->mode.on = true;
@@ -255,7 +255,7 @@ static bool on(const struct call *c, struct leaf_pw *pw, uint8_t *keep)
     return true;
 }
 
-static bool off(const struct call *c, struct leaf_pw *pw, uint8_t *keep)
+static bool off(const struct call *c, struct pw_meter *pw, uint8_t *keep)
 {
     (void)c, (void)keep;
     pw->mode.on = false;
@@ -263,7 +263,7 @@ static bool off(const struct call *c, struct leaf_pw *pw, uint8_t *keep)
     return false;
 }
 
-static bool reapply(const struct call *c, struct leaf_pw *pw, uint8_t *keep)
+static bool reapply(const struct call *c, struct pw_meter *pw, uint8_t *keep)
 {
     (void)c, (void)keep;
     pw->mode.cal_req = false;
@@ -271,7 +271,7 @@ static bool reapply(const struct call *c, struct leaf_pw *pw, uint8_t *keep)
     return true;
 }
 
-static bool method(const struct call *c, struct leaf_pw *pw, uint8_t *keep)
+static bool method(const struct call *c, struct pw_meter *pw, uint8_t *keep)
 {
     (void)keep;
     pw->mode.alt = word_is(c->words[2], "1");
@@ -280,7 +280,7 @@ static bool method(const struct call *c, struct leaf_pw *pw, uint8_t *keep)
 }
 
 /* The low two bits, where 2 counts as 0. After a job that was aborted it applies at any rate. */
-static bool coupling(const struct call *c, struct leaf_pw *pw, uint8_t *keep)
+static bool coupling(const struct call *c, struct pw_meter *pw, uint8_t *keep)
 {
     (void)keep;
     uint8_t n;
@@ -312,9 +312,9 @@ static bool range(const struct call *c, struct word w, uint8_t most, uint8_t *at
     return true;
 }
 
-static bool ranges(const struct call *c, struct leaf_pw *pw, uint8_t *keep)
+static bool ranges(const struct call *c, struct pw_meter *pw, uint8_t *keep)
 {
-    struct leaf_ranges *r = &pw->ranges, was = *r;
+    struct pw_ranges *r = &pw->ranges, was = *r;
     range(c, c->words[2], 3, &r->vr, &r->v_auto);
     if (range(c, c->words[3], 5, &r->ik, &r->i_auto))
         pw->barred = 0;

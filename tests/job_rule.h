@@ -23,18 +23,18 @@ struct codes {
 
 /* ---- a job's steps ---- */
 
-static inline bool is_reference(const struct leaf_job *j)
+static inline bool is_reference(const struct pw_job *j)
 {
     return j->job == GAIN_JOB && j->job_step % 2 == 1;
 }
 
-static inline bool is_zero_of_ad1(const struct leaf_job *j)
+static inline bool is_zero_of_ad1(const struct pw_job *j)
 {
     return j->job == ZERO_JOB && j->job_step >= 6 && j->job_step < LAST_ZERO;
 }
 
 /* AD1's bit for zero steps 6 to 11 and the DC reference, else both of RMS and LPF. */
-static inline bool is_ready(const struct leaf_job *j, uint8_t flags)
+static inline bool is_ready(const struct pw_job *j, uint8_t flags)
 {
     uint8_t need = is_zero_of_ad1(j) || (is_reference(j) && j->job_dc) ? 0x04 : 0x18;
     return (flags & need) == need;
@@ -42,9 +42,9 @@ static inline bool is_ready(const struct leaf_job *j, uint8_t flags)
 
 /* Nothing is summed; 1 frame is to be dropped, for the AC reference 4; the zero job goes through the current
  * ranges twice. The row is that of X in zero steps 0 to 5. */
-static inline struct leaf_stamp begin_step(struct leaf_pw *pw, uint64_t now)
+static inline struct pw_stamp begin_step(struct pw_meter *pw, uint64_t now)
 {
-    struct leaf_job *j = &pw->job;
+    struct pw_job *j = &pw->job;
     bool ac = is_reference(j) && !j->job_dc, x = j->job == ZERO_JOB && j->job_step < 6;
     uint64_t settle = ac ? 2000 : is_reference(j) ? 450 : 550;
     j->job_n = 0;
@@ -53,10 +53,10 @@ static inline struct leaf_stamp begin_step(struct leaf_pw *pw, uint64_t now)
         pw->ranges.ik = j->job_step % 6;
     pw->cycle.skip = ac ? 4 : 1;
     pw->cycle.stat = x ? 0x80 : 0x8C;
-    return (struct leaf_stamp){true, now > UINT64_MAX - settle ? UINT64_MAX : now + settle};
+    return (struct pw_stamp){true, now > UINT64_MAX - settle ? UINT64_MAX : now + settle};
 }
 
-static inline struct leaf_pw ended(struct leaf_pw pw, uint8_t res)
+static inline struct pw_meter ended(struct pw_meter pw, uint8_t res)
 {
     if (pw.job.job == 0)
         return pw;
@@ -67,9 +67,9 @@ static inline struct leaf_pw ended(struct leaf_pw pw, uint8_t res)
     return pw;
 }
 
-static inline struct leaf_started started(struct leaf_pw pw, uint8_t kind, uint64_t now)
+static inline struct leaf_started started(struct pw_meter pw, uint8_t kind, uint64_t now)
 {
-    struct leaf_job *j = &pw.job;
+    struct pw_job *j = &pw.job;
     j->job_save = pw.ranges;
     j->job = j->job_last = kind == ZERO_JOB ? ZERO_JOB : GAIN_JOB;
     j->job_step = j->used = 0;
@@ -78,11 +78,11 @@ static inline struct leaf_started started(struct leaf_pw pw, uint8_t kind, uint6
     memcpy(j->job_zx, pw.corrections.zx, sizeof j->job_zx);
     memcpy(j->job_zd, pw.corrections.zd, sizeof j->job_zd);
     pw.phase_cal.cal = 0;
-    struct leaf_stamp mark = begin_step(&pw, now);
+    struct pw_stamp mark = begin_step(&pw, now);
     return (struct leaf_started){pw, mark};
 }
 
-static inline struct leaf_pw turned_away(struct leaf_pw pw, uint8_t kind)
+static inline struct pw_meter turned_away(struct pw_meter pw, uint8_t kind)
 {
     pw.job.job_last = kind == ZERO_JOB ? ZERO_JOB : GAIN_JOB;
     pw.job.job_res = JR_METHOD;
@@ -107,7 +107,7 @@ static inline float root_of(const struct codes *c)
 }
 
 /* The factory's DC V or AC V of the range, with its words. */
-static inline float reference_volts(const struct leaf_pw *pw, const struct codes *c)
+static inline float reference_volts(const struct pw_meter *pw, const struct codes *c)
 {
     uint32_t r = pw->ranges.vr > 3 ? 3 : pw->ranges.vr;
     float k = leaf_k_acv((uint8_t)r);
@@ -120,7 +120,7 @@ static inline float reference_volts(const struct leaf_pw *pw, const struct codes
     return dc < 0.0f ? dc * leaf_dcv_negk((uint8_t)r) : dc;
 }
 
-static inline struct reading reading_of(const struct leaf_pw *pw, const struct codes *c)
+static inline struct reading reading_of(const struct pw_meter *pw, const struct codes *c)
 {
     if (is_reference(&pw->job))
         return (struct reading){reference_volts(pw, c), 0.0f, 0.0f};
@@ -133,7 +133,7 @@ static inline struct reading reading_of(const struct leaf_pw *pw, const struct c
     return (struct reading){root_of(c) * code_volts * k, (float)(c->lpf - zero) * code_volts * k, 0.0f};
 }
 
-static inline int32_t old_zero(const struct leaf_pw *pw)
+static inline int32_t old_zero(const struct pw_meter *pw)
 {
     uint8_t step = pw->job.job_step;
     if (!pw->corrections.zero_ok)
@@ -141,7 +141,7 @@ static inline int32_t old_zero(const struct leaf_pw *pw)
     return step < 6 ? pw->job.job_zx[step] : step < LAST_ZERO ? pw->job.job_zd[step - 6] : pw->corrections.zy;
 }
 
-static inline bool is_signal(const struct leaf_pw *pw, struct reading r)
+static inline bool is_signal(const struct pw_meter *pw, struct reading r)
 {
     int32_t distance = (int32_t)r.x - old_zero(pw);
     return r.root > 400.0f || (distance < 0 ? -distance : distance) > (is_zero_of_ad1(&pw->job) ? 20000 : 4000);
@@ -156,9 +156,9 @@ static inline int16_t mean_zero(float mean)
     return isnan(half) ? 0 : half < -32768.0f ? INT16_MIN : half > 32767.0f ? INT16_MAX : (int16_t)half;
 }
 
-static inline uint8_t end_zero_step(struct leaf_pw *pw, float mean)
+static inline uint8_t end_zero_step(struct pw_meter *pw, float mean)
 {
-    struct leaf_job *j = &pw->job;
+    struct pw_job *j = &pw->job;
     if (j->job_step < LAST_ZERO) {
         *(j->job_step < 6 ? &j->job_zx[j->job_step] : &j->job_zd[j->job_step - 6]) = mean_zero(mean);
         return 0;
@@ -170,9 +170,9 @@ static inline uint8_t end_zero_step(struct leaf_pw *pw, float mean)
     return JR_OK;
 }
 
-static inline uint8_t end_raw_step(struct leaf_pw *pw, float ac, float dc)
+static inline uint8_t end_raw_step(struct pw_meter *pw, float ac, float dc)
 {
-    struct leaf_job *j = &pw->job;
+    struct pw_job *j = &pw->job;
     if (j->job_step == 0)
         j->job_dc = fabsf(dc) > ac;
     float limit = leaf_v_lim(pw->ranges.vr), raw = j->job_dc ? dc : ac;
@@ -183,9 +183,9 @@ static inline uint8_t end_raw_step(struct leaf_pw *pw, float ac, float dc)
     return fabsf(raw) > (j->job_dc ? 1.0f : 0.7f) * limit || peak ? JR_BIG : 0;
 }
 
-static inline uint8_t end_reference_step(struct leaf_pw *pw, float mean)
+static inline uint8_t end_reference_step(struct pw_meter *pw, float mean)
 {
-    struct leaf_job *j = &pw->job;
+    struct pw_job *j = &pw->job;
     j->job_ref[j->job_step / 2] = mean;
     if (j->job_step < LAST_GAIN)
         return 0;
@@ -199,7 +199,7 @@ static inline uint8_t end_reference_step(struct leaf_pw *pw, float mean)
     return JR_OK;
 }
 
-static inline uint8_t end_step(struct leaf_pw *pw)
+static inline uint8_t end_step(struct pw_meter *pw)
 {
     float a = pw->job.job_a / 3.0f, b = pw->job.job_b / 3.0f;
     if (pw->job.job == ZERO_JOB)
@@ -209,10 +209,10 @@ static inline uint8_t end_step(struct leaf_pw *pw)
 
 /* ---- a frame in a job ---- */
 
-static inline struct leaf_polled polled(struct leaf_pw pw, const struct codes *c)
+static inline struct leaf_polled polled(struct pw_meter pw, const struct codes *c)
 {
-    struct leaf_job *j = &pw.job;
-    struct leaf_stamp mark = {false, 0};
+    struct pw_job *j = &pw.job;
+    struct pw_stamp mark = {false, 0};
     pw.clock.t_poll = c->now;
     if (!is_ready(j, c->flags))
         return (struct leaf_polled){pw, mark, j->used};
@@ -248,7 +248,7 @@ static inline struct leaf_cal_outcome outcome(float s)
     return (struct leaf_cal_outcome){CAL_OK, (int8_t)(s < 0.0f ? s - 0.5f : s + 0.5f)};
 }
 
-static inline struct leaf_phase_cal phase_started(struct leaf_phase_cal p)
+static inline struct pw_phase_cal phase_started(struct pw_phase_cal p)
 {
     p.cal = 1;
     p.cal_n = 0;
@@ -258,7 +258,7 @@ static inline struct leaf_phase_cal phase_started(struct leaf_phase_cal p)
     return p;
 }
 
-static inline struct leaf_phase_step accounted(struct leaf_phase_cal p, bool cal_req)
+static inline struct leaf_phase_step accounted(struct pw_phase_cal p, bool cal_req)
 {
     if (p.cal == 0 || p.cal_n < 8)
         return (struct leaf_phase_step){p, cal_req};

@@ -69,15 +69,15 @@ uint64_t frames_in_jobs(void)
 
 /* ---- which cases a frame in a job is, by the dumps ---- */
 
-static bool is_ad1_step(const struct leaf_job *j)
+static bool is_ad1_step(const struct pw_job *j)
 {
     return j->job == ZERO_JOB && j->job_step >= FIRST_AD1 && j->job_step < LAST_ZERO;
 }
 
 /* The zero that a reading of the step is held against. */
-static int32_t old_zero(const struct leaf_pw *pw)
+static int32_t old_zero(const struct pw_meter *pw)
 {
-    const struct leaf_job *j = &pw->job;
+    const struct pw_job *j = &pw->job;
     if (!pw->corrections.zero_ok)
         return 0;
     if (is_ad1_step(j))
@@ -88,7 +88,7 @@ static int32_t old_zero(const struct leaf_pw *pw)
 /* A ready frame of a zero job that is not dropped. No zero but AD1's gets far enough to be held. */
 static void count_zero(const struct call *c, const struct frame *f)
 {
-    const struct leaf_job *b = &c->before.job, *a = &c->after.job;
+    const struct pw_job *b = &c->before.job, *a = &c->after.job;
     bool ad1 = is_ad1_step(b), signal = a->job_res == SIGNAL, root = signal && !ad1 && f->rms > 160000;
     bool far = signal && !root, ok = a->job_res == OK;
     int32_t size = abs(ad1 ? f->ad1 : f->lpf), most = ad1 ? 20000 : 4000;
@@ -107,7 +107,7 @@ static void count_zero(const struct call *c, const struct frame *f)
 /* A gain job that a frame has ended. */
 static void count_gain(const struct call *c)
 {
-    const struct leaf_job *b = &c->before.job, *a = &c->after.job;
+    const struct pw_job *b = &c->before.job, *a = &c->after.job;
     bool ok = a->job_res == OK, dc = a->job_dc, second = b->job_step == 2;
     float limit = leaf_v_lim(a->job_vr), size = fabsf(a->job_raw[second ? 1 : 0]);
     bool big = a->job_res == BIG, by_size = big && size > (dc ? 1.0f : 0.7f) * limit;
@@ -135,7 +135,7 @@ static void count_gain(const struct call *c)
  * first; or the other kind is the larger one later. */
 static void count_step(const struct call *c)
 {
-    const struct leaf_job *b = &c->before.job, *a = &c->after.job;
+    const struct pw_job *b = &c->before.job, *a = &c->after.job;
     bool reference = b->job_step % 2 == 1;
     float off = leaf_offset(c->before.calibration, 0x44 + 4 * (uint32_t)a->job_vr), dc = fabsf(b->job_b);
     count(BELOW_OFFSET, reference && !a->job_dc && off > 0.0f && a->job_ref[b->job_step / 2] == 0.0f);
@@ -145,7 +145,7 @@ static void count_step(const struct call *c)
 
 static void count_poll(const struct call *c, const struct frame *f)
 {
-    const struct leaf_job *b = &c->before.job, *a = &c->after.job;
+    const struct pw_job *b = &c->before.job, *a = &c->after.job;
     bool ready = c->used != b->used, ended = a->job == 0, dropped = ready && c->before.cycle.skip > 0;
     bool of_ad1 = is_ad1_step(b) || (b->job == GAIN_JOB && b->job_step % 2 == 1 && b->job_dc);
     count(NOT_READY, !ready && !of_ad1);
@@ -166,7 +166,7 @@ static void count_poll(const struct call *c, const struct frame *f)
 
 /* ---- comparing ---- */
 
-static size_t check_mark(struct leaf_stamp expected, struct leaf_stamp got, const char *what, size_t most)
+static size_t check_mark(struct pw_stamp expected, struct pw_stamp got, const char *what, size_t most)
 {
     if (same_stamp(expected, got))
         return 0;
@@ -182,7 +182,7 @@ static size_t check_poll(const struct call *c, const char *what, size_t most)
 {
     struct frame f = frame_of(c);
     struct leaf_polled got = leaf_job_poll(c->before, f.now, f.flags, f.ad1, f.lpf, f.rms);
-    struct leaf_pw expected = c->after;
+    struct pw_meter expected = c->after;
     if (expected.job.job == 0)
         expected.job.used = c->used;
     size_t differ = differences(&expected, &got.pw, what, most) + check_mark(c->mark, got.mark, what, most);
@@ -204,7 +204,7 @@ static uint8_t kind_of(const struct call *c)
 static size_t check_start(const struct call *c, const char *what, size_t most)
 {
     uint8_t kind = kind_of(c);
-    struct leaf_pw before = c->before;
+    struct pw_meter before = c->before;
     before.job.used = (uint8_t)(c->line % 53);
     struct leaf_started got = leaf_job_start(before, kind, time_of(c));
     count(kind == ZERO_JOB ? ZERO_STARTED : GAIN_STARTED, true);
@@ -216,14 +216,14 @@ static size_t check_start(const struct call *c, const char *what, size_t most)
 static size_t check_turned_away(const struct call *c, const char *what, size_t most)
 {
     uint8_t kind = kind_of(c);
-    struct leaf_pw got = leaf_job_turned_away(c->before, kind);
+    struct pw_meter got = leaf_job_turned_away(c->before, kind);
     count(kind == ZERO_JOB ? AWAY_ZERO : AWAY_GAIN, true);
     return differences(&c->after, &got, what, most);
 }
 
 static size_t check_phase_start(const struct call *c, const char *what, size_t most)
 {
-    struct leaf_pw got = c->before;
+    struct pw_meter got = c->before;
     got.phase_cal = leaf_cal_start(c->before.phase_cal);
     count(PHASE_STARTED, true);
     count(PHASE_IN_JOB, c->before.job.job != 0);
@@ -261,7 +261,7 @@ size_t check_jobs(const struct call *c, const char *what, size_t most)
 /* A round that has ended with this frame. */
 static void count_round(const struct call *c)
 {
-    const struct leaf_phase_cal *b = &c->before.phase_cal, *a = &c->after.phase_cal;
+    const struct pw_phase_cal *b = &c->before.phase_cal, *a = &c->after.phase_cal;
     bool first = b->cal == 1, second = b->cal == 2, on = first && a->cal == 2;
     count(ROUND_UP, on && a->cal_s0 <= 79);
     count(ROUND_DOWN, on && a->cal_s0 > 79);
@@ -272,12 +272,12 @@ static void count_round(const struct call *c)
     count(PHASE_RANGE, second && a->cal_res == CAL_RANGE);
 }
 
-size_t check_account(const struct call *c, const struct leaf_pw *taken, const char *what, size_t most)
+size_t check_account(const struct call *c, const struct pw_meter *taken, const char *what, size_t most)
 {
     struct leaf_phase_step step = {taken->phase_cal, taken->mode.cal_req};
     if (c->reading)
         step = leaf_cal_account(taken->phase_cal, taken->mode.cal_req);
-    struct leaf_pw got = c->after;
+    struct pw_meter got = c->after;
     got.phase_cal = step.phase_cal;
     got.mode.cal_req = step.cal_req;
     if (c->before.phase_cal.cal != c->after.phase_cal.cal)

@@ -11,7 +11,7 @@ size_t check_jobs(const struct call *c, const char *what, size_t most);
 
 /* The same of an accepted frame outside a job, after which leaf_frame left the meter `taken`: the phase
  * calibration's part of the accounting step where the frame gave a reading, else nothing more. */
-size_t check_account(const struct call *c, const struct leaf_pw *taken, const char *what, size_t most);
+size_t check_account(const struct call *c, const struct pw_meter *taken, const char *what, size_t most);
 
 /* How many frames in a job were compared. */
 uint64_t frames_in_jobs(void);

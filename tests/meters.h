@@ -5,9 +5,9 @@
 #include "fields.h"
 
 /* Any bits in each field; a bool is yes or no. */
-static inline struct leaf_pw some_meter(uint64_t *state)
+static inline struct pw_meter some_meter(uint64_t *state)
 {
-    struct leaf_pw pw = {.barred = 0};
+    struct pw_meter pw = {.barred = 0};
     for (const struct field *f = fields; f < fields + FIELDS; f++)
         for (size_t k = 0; k < f->count; k++) {
             uint64_t r = next(state);

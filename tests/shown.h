@@ -8,7 +8,7 @@
 #include "fields.h"
 
 #define VALUE(kind, key, member, first) \
-    {key, offsetof(struct leaf_power_vals, member), kind, SHOWN, 1, first, 1}
+    {key, offsetof(struct pw_power_vals, member), kind, SHOWN, 1, first, 1}
 
 static const struct field value_fields[] = {
     VALUE(F32, "p", load.p, 0),
@@ -53,10 +53,10 @@ enum { VALUE_FIELDS = sizeof value_fields / sizeof value_fields[0] };
 /* The readouts, the energy box and the telephone's main value; what is shown in place of a reading;
  * whether energy is being counted; the telephone's mode byte. */
 struct shown {
-    struct leaf_readouts readouts;
-    struct leaf_val energy;
-    struct leaf_val bt;
-    struct leaf_partial partial;
+    struct pw_readouts readouts;
+    struct pw_val energy;
+    struct pw_val bt;
+    struct pw_partial partial;
     bool integrating;
     uint8_t bt_mode;
 };
@@ -90,11 +90,11 @@ static const char *const partial_texts[PARTIAL_TEXTS] = {
 };
 
 /* The source's PowerVals::ZERO, with f_ok no. */
-static inline struct leaf_power_vals no_values(void)
+static inline struct pw_power_vals no_values(void)
 {
-    struct leaf_power_vals zero = {.hint = 0};
+    struct pw_power_vals zero = {.hint = 0};
     zero.energies.p_avg = NAN;
-    zero.ranges = (struct leaf_ranges){.vr = 3, .ik = 5, .v_auto = true, .i_auto = true};
+    zero.ranges = (struct pw_ranges){.vr = 3, .ik = 5, .v_auto = true, .i_auto = true};
     zero.in_force.coup = 1;
     zero.in_force.run = true;
     return zero;

@@ -17,10 +17,10 @@
 #include <stddef.h>
 #include <stdio.h>
 
-_Static_assert(sizeof(struct leaf_figures) == 24, "leaf_figures");
-_Static_assert(sizeof(struct leaf_acc) == 16 && offsetof(struct leaf_acc, frac) == 8, "leaf_acc");
+_Static_assert(sizeof(struct pw_figures) == 24, "leaf_figures");
+_Static_assert(sizeof(struct pw_acc) == 16 && offsetof(struct pw_acc, frac) == 8, "leaf_acc");
 _Static_assert(sizeof(struct leaf_added) == 32 && offsetof(struct leaf_added, whole) == 24, "leaf_added");
-_Static_assert(sizeof(struct leaf_tally) == 40 && offsetof(struct leaf_tally, t_int) == 32, "leaf_tally");
+_Static_assert(sizeof(struct pw_tally) == 40 && offsetof(struct pw_tally, t_int) == 32, "leaf_tally");
 _Static_assert(sizeof(struct leaf_accounted) == 56 && offsetof(struct leaf_accounted, whole) == 48, "leaf_accounted");
 _Static_assert(FLT_EVAL_METHOD == 0, "each operation is rounded to its type");
 
@@ -40,7 +40,7 @@ static void expect(bool holds, const char *what, const uint64_t input[4])
 
 /* ---- totals ---- */
 
-static bool same_figures(struct leaf_figures a, struct leaf_figures b)
+static bool same_figures(struct pw_figures a, struct pw_figures b)
 {
     return same32(a.p, b.p) && same32(a.s, b.s) && same32(a.q, b.q) && same32(a.pf, b.pf) && same32(a.v, b.v)
            && same32(a.i, b.i);
@@ -53,9 +53,9 @@ static float root(float x)
 }
 
 /* Each operation is a statement of its own, in the source's order. */
-static struct leaf_figures expected_totals(const float part[6])
+static struct pw_figures expected_totals(const float part[6])
 {
-    struct leaf_figures t;
+    struct pw_figures t;
     float direct = part[2] * part[4], measured = part[0] + direct, r = part[5];
     float v = leaf_hypot(part[1], part[2]);
     t.i = leaf_hypot(part[3], part[4]);
@@ -86,7 +86,7 @@ static void check_totals(const float part[6])
 {
     uint64_t input[4] = {bits32(part[0]), (uint64_t)bits32(part[1]) << 32 | bits32(part[2]),
                          (uint64_t)bits32(part[3]) << 32 | bits32(part[4]), bits32(part[5])};
-    struct leaf_figures got = leaf_totals(part[0], part[1], part[2], part[3], part[4], part[5]);
+    struct pw_figures got = leaf_totals(part[0], part[1], part[2], part[3], part[4], part[5]);
     expect(same_figures(got, expected_totals(part)), "totals", input);
 }
 
@@ -95,7 +95,7 @@ static void check_totals_rows(void)
 {
     static const struct {
         float part[6];
-        struct leaf_figures figures;
+        struct pw_figures figures;
     } rows[] = {
         {{3, 5, 0, 1, 0, 0}, {3, 5, 4, 0.6f, 5, 1}},
         {{-3, 5, 0, 1, 0, 0}, {-3, 5, 4, -0.6f, 5, 1}},
@@ -109,7 +109,7 @@ static void check_totals_rows(void)
     };
     for (size_t k = 0; k < sizeof rows / sizeof rows[0]; k++) {
         const float *part = rows[k].part;
-        struct leaf_figures got = leaf_totals(part[0], part[1], part[2], part[3], part[4], part[5]);
+        struct pw_figures got = leaf_totals(part[0], part[1], part[2], part[3], part[4], part[5]);
         expect(same_figures(got, rows[k].figures), "a row of totals", (uint64_t[4]){k, 0, 0, 0});
     }
 }
@@ -232,13 +232,13 @@ static void check_all_ema(uint64_t *state)
 
 /* ---- the accumulator ---- */
 
-static bool same_acc(struct leaf_acc got, int64_t mj, float frac)
+static bool same_acc(struct pw_acc got, int64_t mj, float frac)
 {
     return got.mj == mj && same32(got.frac, frac);
 }
 
 /* What was got of the record a by adding, where the rounded sum is x. */
-static void check_added(const char *what, struct leaf_added got, struct leaf_acc a, float added, float x)
+static void check_added(const char *what, struct leaf_added got, struct pw_acc a, float added, float x)
 {
     uint64_t input[4] = {(uint64_t)a.mj, bits32(a.frac), bits32(added), bits32(x)};
     struct step step = expected_step(a.mj, x);
@@ -251,7 +251,7 @@ static void check_added(const char *what, struct leaf_added got, struct leaf_acc
     }
 }
 
-static void check_acc(struct leaf_acc a, float added)
+static void check_acc(struct pw_acc a, float added)
 {
     float millijoules = added * 1000.0f;
     check_added("acc_step", leaf_acc_step(a, added), a, added, a.frac + added);
@@ -289,19 +289,19 @@ static void check_acc_edges(uint64_t *state)
             for (int n = 0; n < 24; n++) {
                 float frac = some_special(i % SPECIAL | (i / SPECIAL) << 16);
                 float added = some_special(j % SPECIAL | (j / SPECIAL) << 16);
-                check_acc((struct leaf_acc){some_count(state, frac + added), frac}, added);
-                check_acc((struct leaf_acc){some_count(state, frac + added * 1000.0f), frac}, added);
+                check_acc((struct pw_acc){some_count(state, frac + added), frac}, added);
+                check_acc((struct pw_acc){some_count(state, frac + added * 1000.0f), frac}, added);
             }
 }
 
 static void check_all_acc(uint64_t *state)
 {
-    struct leaf_acc fresh = {0, 0.0f};
+    struct pw_acc fresh = {0, 0.0f};
     check_acc_edges(state);
     for (int n = 0; n < 2000000; n++) {
         float frac = n % 4 == 0 ? some_float(state, 0) : some_figure(next(state), 0);
         float added = n % 3 == 0 ? some_float(state, 40) : some_figure(next(state), n % 3 == 1 ? 4 : 30);
-        check_acc((struct leaf_acc){some_count(state, frac + added), frac}, added);
+        check_acc((struct pw_acc){some_count(state, frac + added), frac}, added);
         struct leaf_added once = leaf_add_to(fresh, added);
         check_acc(once.acc, some_figure(next(state), 3));
     }
@@ -353,13 +353,13 @@ static void check_all_wh(uint64_t *state)
 
 /* ---- the accounting step ---- */
 
-static bool same_tally(struct leaf_tally a, struct leaf_tally b)
+static bool same_tally(struct pw_tally a, struct pw_tally b)
 {
     return same_acc(a.e, b.e.mj, b.e.frac) && same_acc(a.va, b.va.mj, b.va.frac) && a.t_int == b.t_int;
 }
 
 /* All of the tally is changed, or nothing of it. */
-static struct leaf_accounted expected_accounting(struct leaf_tally t, uint64_t dt, float p_tot, float s_last,
+static struct leaf_accounted expected_accounting(struct pw_tally t, uint64_t dt, float p_tot, float s_last,
                                                  bool active)
 {
     float seconds = (float)dt * 0.001f;
@@ -370,13 +370,13 @@ static struct leaf_accounted expected_accounting(struct leaf_tally t, uint64_t d
     unsigned __int128 time = (unsigned __int128)t.t_int + dt;
     if ((active && !e.fits) || !va.fits || time > INT64_MAX)
         return (struct leaf_accounted){6, t, 0};
-    struct leaf_tally after = {t.e, {va.mj, va.frac}, (uint64_t)time};
+    struct pw_tally after = {t.e, {va.mj, va.frac}, (uint64_t)time};
     if (active)
-        after.e = (struct leaf_acc){e.mj, e.frac};
+        after.e = (struct pw_acc){e.mj, e.frac};
     return (struct leaf_accounted){0, after, active ? e.whole : 0};
 }
 
-static uint8_t check_accounting(struct leaf_tally t, uint64_t dt, float p_tot, float s_last, bool active)
+static uint8_t check_accounting(struct pw_tally t, uint64_t dt, float p_tot, float s_last, bool active)
 {
     uint64_t input[4] = {t.t_int, dt, (uint64_t)bits32(p_tot) << 32 | bits32(s_last), active};
     struct leaf_accounted got = leaf_accounting_step(t, dt, p_tot, s_last, active);
@@ -391,7 +391,7 @@ static uint8_t check_accounting(struct leaf_tally t, uint64_t dt, float p_tot, f
 static void check_accounting_rows(void)
 {
     static const struct {
-        struct leaf_tally before;
+        struct pw_tally before;
         bool active;
         struct leaf_accounted after;
     } rows[] = {
@@ -456,7 +456,7 @@ static void check_all_accounting(uint64_t *state)
         float p = plain ? some_figure(r, 14) : some_float(state, 40);
         float s = n % 5 < 3 ? some_figure(next(state), 14) : some_float(state, 40);
         float seconds = (float)dt * 0.001f;
-        struct leaf_tally t;
+        struct pw_tally t;
         t.e.frac = plain ? some_figure(next(state), 0) : some_float(state, 0);
         t.va.frac = n % 5 < 4 ? some_figure(next(state), 0) : some_float(state, 0);
         t.e.mj = some_count(state, t.e.frac + p * seconds * 1000.0f);
@@ -465,7 +465,7 @@ static void check_all_accounting(uint64_t *state)
         refused[active] += check_accounting(t, dt, p, s, active) != 0;
         /* where e alone is full, and the time and va are not */
         t.t_int = r >> 8 & 0xFFFF;
-        t.va = (struct leaf_acc){0, 0.0f};
+        t.va = (struct pw_acc){0, 0.0f};
         check_accounting(t, dt & 0xFFFF, p, 1.0f, active);
     }
     for (int active = 0; active < 2; active++)
@@ -476,10 +476,10 @@ static void check_all_accounting(uint64_t *state)
 /* From nothing, a day of intervals of about a second: what was told is what was added. */
 static void check_tally_day(uint64_t *state)
 {
-    struct leaf_tally t = leaf_fresh_tally();
+    struct pw_tally t = leaf_fresh_tally();
     __int128 whole = 0;
     uint64_t time = 0;
-    expect(same_tally(t, (struct leaf_tally){{0, 0.0f}, {0, 0.0f}, 0}), "a fresh tally", (uint64_t[4]){0, 0, 0, 0});
+    expect(same_tally(t, (struct pw_tally){{0, 0.0f}, {0, 0.0f}, 0}), "a fresh tally", (uint64_t[4]){0, 0, 0, 0});
     for (int n = 0; n < 86400; n++) {
         uint64_t dt = next(state) % 2000;
         float p = some_figure(next(state), 12);

@@ -10,7 +10,7 @@
 
 #include <stdlib.h>
 
-static void expect_same(const struct leaf_pw *expected, const struct leaf_pw *got, const char *what)
+static void expect_same(const struct pw_meter *expected, const struct pw_meter *got, const char *what)
 {
     checks++;
     failed += differences(expected, got, what, failed <= 10 ? 4 : 0) == 0 ? 0 : 1;
@@ -31,9 +31,9 @@ static void count(enum met which, bool was)
 }
 
 /* A reading of a zero job, and what came of it. */
-static void count_zero(const struct leaf_pw *pw, const struct codes *c, const struct leaf_polled *e)
+static void count_zero(const struct pw_meter *pw, const struct codes *c, const struct leaf_polled *e)
 {
-    const struct leaf_job *a = &e->pw.job;
+    const struct pw_job *a = &e->pw.job;
     bool ad1 = is_zero_of_ad1(&pw->job), over = a->job == 0, signal = over && a->job_res == JR_SIGNAL;
     int32_t distance = abs((ad1 ? c->ad1 : c->lpf) - old_zero(pw)), most = ad1 ? 20000 : 4000;
     count(HELD, e->mark.set && ad1 && a->job_zd[pw->job.job_step - 6] == INT16_MAX);
@@ -45,9 +45,9 @@ static void count_zero(const struct leaf_pw *pw, const struct codes *c, const st
 }
 
 /* A gain job that has ended. */
-static void count_gain(const struct leaf_pw *pw, const struct leaf_polled *e)
+static void count_gain(const struct pw_meter *pw, const struct leaf_polled *e)
 {
-    const struct leaf_job *a = &e->pw.job;
+    const struct pw_job *a = &e->pw.job;
     bool ok = a->job_res == JR_OK;
     float gain = e->pw.corrections.vgain[pw->ranges.vr > 3 ? 3 : pw->ranges.vr];
     count(SMALL, a->job_res == JR_SMALL);
@@ -61,7 +61,7 @@ static void count_gain(const struct leaf_pw *pw, const struct leaf_polled *e)
     count(HELD_VR, ok && pw->ranges.vr > 3);
 }
 
-static void count_job(const struct leaf_pw *pw, const struct codes *c, const struct leaf_polled *e)
+static void count_job(const struct pw_meter *pw, const struct codes *c, const struct leaf_polled *e)
 {
     bool ready = is_ready(&pw->job, c->flags), taken = ready && pw->cycle.skip == 0, over = e->pw.job.job == 0;
     count(NOT_READY, !ready);
@@ -89,7 +89,7 @@ static float beside(uint64_t *state, float x)
 }
 
 /* The zero of the step in hand as the start copied it, which it is until the step has ended. */
-static void keep_copy(struct leaf_pw *pw)
+static void keep_copy(struct pw_meter *pw)
 {
     uint8_t step = pw->job.job_step;
     if (step < 6)
@@ -99,10 +99,10 @@ static void keep_copy(struct leaf_pw *pw)
 }
 
 /* A meter with a job in one of its steps. */
-static struct leaf_pw meter_in_job(uint64_t *state)
+static struct pw_meter meter_in_job(uint64_t *state)
 {
-    struct leaf_pw pw = some_meter(state);
-    struct leaf_job *j = &pw.job;
+    struct pw_meter pw = some_meter(state);
+    struct pw_job *j = &pw.job;
     j->job = below(state, 2) == 0 ? ZERO_JOB : GAIN_JOB;
     j->job_step = (uint8_t)below(state, j->job == ZERO_JOB ? LAST_ZERO + 1 : LAST_GAIN + 1);
     j->job_n = (uint8_t)(below(state, 16) == 0 ? below(state, 255) : below(state, 3));
@@ -131,7 +131,7 @@ static struct codes some_codes(uint64_t *state)
 }
 
 /* A zero job's reading at a limit or just beyond it, to either side of the old zero; sums about it. */
-static void put_at_zero_limit(uint64_t *state, struct leaf_pw *pw, struct codes *c)
+static void put_at_zero_limit(uint64_t *state, struct pw_meter *pw, struct codes *c)
 {
     bool ad1 = is_zero_of_ad1(&pw->job);
     int32_t most = (ad1 ? 20000 : 4000) + (int32_t)below(state, 2), x = old_zero(pw);
@@ -145,11 +145,11 @@ static void put_at_zero_limit(uint64_t *state, struct leaf_pw *pw, struct codes 
 
 /* The third reading of a gain job's step is nothing, and its mean, by the sums, at a limit or beside it: of the size
  * or the peak, or of the ratios and their spread. */
-static void put_at_gain_limit(uint64_t *state, struct leaf_pw *pw, struct codes *c)
+static void put_at_gain_limit(uint64_t *state, struct pw_meter *pw, struct codes *c)
 {
     static const float parts[] = {0.1f, 0.7f, 1.0f, 0.3f, 0.49497475f}, gains[] = {0.9f, 1.1f, 1.0f, 0.0f};
     static const float spreads[] = {1.0f, 1.0f, 1.003f, 0.997f};
-    struct leaf_job *j = &pw->job;
+    struct pw_job *j = &pw->job;
     float limit = leaf_v_lim(pw->ranges.vr), sign = below(state, 2) == 0 ? 1.0f : -1.0f, raw = sign * limit * 0.5f;
     j->job_n = 2;
     c->rms = 0;
@@ -171,9 +171,9 @@ static void put_at_gain_limit(uint64_t *state, struct leaf_pw *pw, struct codes 
 
 /* Of the meter only these may change; the ranges of a job that has ended are those noted, and the corrections are as
  * they were unless it has ended well. */
-static void check_laws(const struct leaf_pw *pw, const struct leaf_polled *got)
+static void check_laws(const struct pw_meter *pw, const struct leaf_polled *got)
 {
-    struct leaf_pw kept = *pw;
+    struct pw_meter kept = *pw;
     kept.mode.cal_req = got->pw.mode.cal_req;
     kept.ranges = got->pw.ranges;
     kept.cycle.skip = got->pw.cycle.skip;
@@ -190,7 +190,7 @@ static void check_laws(const struct leaf_pw *pw, const struct leaf_polled *got)
     expect_same(&kept, &got->pw, "the ranges of a job that has ended");
 }
 
-static void check_poll(struct leaf_pw pw, struct codes c)
+static void check_poll(struct pw_meter pw, struct codes c)
 {
     struct leaf_polled e = polled(pw, &c), got = leaf_job_poll(pw, c.now, c.flags, c.ad1, c.lpf, c.rms);
     expect_same(&e.pw, &got.pw, "a frame in a job");
@@ -202,7 +202,7 @@ static void check_poll(struct leaf_pw pw, struct codes c)
 
 static void check_limits(uint64_t *state)
 {
-    struct leaf_pw pw = meter_in_job(state);
+    struct pw_meter pw = meter_in_job(state);
     struct codes c = some_codes(state);
     if (pw.job.job == ZERO_JOB)
         put_at_zero_limit(state, &pw, &c);
@@ -214,7 +214,7 @@ static void check_limits(uint64_t *state)
 /* Any job of any step, and codes of any bits. */
 static void check_any(uint64_t *state)
 {
-    struct leaf_pw pw = some_meter(state);
+    struct pw_meter pw = some_meter(state);
     uint64_t r = next(state), codes = next(state);
     pw.job.job = (uint8_t)(1 + (r >> 8) % ((r & 1) != 0 ? 2 : 255));
     struct leaf_polled got = leaf_job_poll(pw, next(state), (uint8_t)(r >> 16), (int32_t)codes, (int32_t)(codes >> 32),
@@ -224,16 +224,16 @@ static void check_any(uint64_t *state)
 
 static void check_orders(uint64_t *state)
 {
-    struct leaf_pw pw = some_meter(state);
+    struct pw_meter pw = some_meter(state);
     uint64_t r = next(state), now = some_time(state);
     uint8_t kind = (uint8_t)((r >> 6 & 1) != 0 ? r >> 8 & 3 : r >> 16), res = (uint8_t)(r >> 24);
     struct leaf_started e = started(pw, kind, now), got = leaf_job_start(pw, kind, now);
     expect_same(&e.pw, &got.pw, "a job start");
     expect(same_stamp(e.mark, got.mark), "the mark of a job start");
-    struct leaf_pw away = turned_away(pw, kind), kept = leaf_job_turned_away(pw, kind);
+    struct pw_meter away = turned_away(pw, kind), kept = leaf_job_turned_away(pw, kind);
     expect_same(&away, &kept, "a job start that is turned away");
     pw.job.job = (r >> 7 & 1) != 0 ? pw.job.job : 0;
-    struct leaf_pw end = ended(pw, res), over = leaf_job_end(pw, res);
+    struct pw_meter end = ended(pw, res), over = leaf_job_end(pw, res);
     expect_same(&end, &over, "a job's end");
 }
 
@@ -245,9 +245,9 @@ static void check_outcome(float s)
 
 /* Of any bits as a rule; or with the first mean at its limit or beside it, or a second one by which the null is within
  * the steps or beyond. */
-static struct leaf_phase_cal some_phase_cal(uint64_t *state)
+static struct pw_phase_cal some_phase_cal(uint64_t *state)
 {
-    struct leaf_phase_cal p = some_meter(state).phase_cal;
+    struct pw_phase_cal p = some_meter(state).phase_cal;
     p.cal = (uint8_t)below(state, 4);
     p.cal_n = (uint8_t)(below(state, 8) == 0 ? below(state, 256) : 8);
     if (below(state, 4) == 0)
@@ -261,15 +261,15 @@ static struct leaf_phase_cal some_phase_cal(uint64_t *state)
     return p;
 }
 
-static void expect_phase(struct leaf_phase_cal expected, struct leaf_phase_cal got, const char *what)
+static void expect_phase(struct pw_phase_cal expected, struct pw_phase_cal got, const char *what)
 {
-    struct leaf_pw e = {.phase_cal = expected}, g = {.phase_cal = got};
+    struct pw_meter e = {.phase_cal = expected}, g = {.phase_cal = got};
     expect_same(&e, &g, what);
 }
 
 static void check_phase(uint64_t *state)
 {
-    struct leaf_phase_cal p = some_phase_cal(state);
+    struct pw_phase_cal p = some_phase_cal(state);
     bool cal_req = below(state, 2) == 0;
     struct leaf_phase_step step = accounted(p, cal_req), got = leaf_cal_account(p, cal_req);
     expect_phase(step.phase_cal, got.phase_cal, "the phase calibration's accounting");
@@ -288,7 +288,7 @@ int main(void)
 {
     uint64_t state = 5;
     for (int k = 0; k < 100000; k++) {
-        struct leaf_pw pw = meter_in_job(&state);
+        struct pw_meter pw = meter_in_job(&state);
         check_poll(pw, some_codes(&state));
         check_limits(&state);
         check_limits(&state);

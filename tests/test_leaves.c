@@ -17,8 +17,8 @@
 #include <string.h>
 
 _Static_assert(sizeof(struct leaf_iu_ir) == 2, "leaf_iu_ir");
-_Static_assert(sizeof(struct leaf_description) == 28, "leaf_description");
-_Static_assert(sizeof(struct leaf_calibration) == 296, "leaf_calibration");
+_Static_assert(sizeof(struct pw_description) == 28, "leaf_description");
+_Static_assert(sizeof(struct pw_calibration) == 296, "leaf_calibration");
 _Static_assert(sizeof(struct leaf_calibration_answer) == 300, "leaf_calibration_answer");
 _Static_assert(sizeof(struct leaf_gains) == 16, "leaf_gains");
 _Static_assert(FLT_EVAL_METHOD == 0, "each operation is rounded to its type");
@@ -185,7 +185,7 @@ static void check_description(int place, float x)
     float six[6] = {1.0f, 1.0f, 1.0f, 1.0f, 1.0f, 1.0f};
     six[place] = x;
     for (int a_auto = 0; a_auto < 2; a_auto++) {
-        struct leaf_description d = {{six[0], six[1]}, {six[2], six[3], six[4]}, six[5], a_auto};
+        struct pw_description d = {{six[0], six[1]}, {six[2], six[3], six[4]}, six[5], a_auto};
         int refusal = x >= 0x1p-20f && x <= 0x1p20f ? 0 : 7;
         expect(leaf_description_refusal(d) == refusal, "description_refusal", (uint64_t)place << 32 | bits32(x));
     }
@@ -207,12 +207,12 @@ static void check_descriptions(uint64_t *state)
 
 static int same_words(const uint32_t *a, const uint32_t *b)
 {
-    return memcmp(a, b, LEAF_WORDS * sizeof *a) == 0;
+    return memcmp(a, b, PW_CALIBRATION * sizeof *a) == 0;
 }
 
 static void check_refused(const uint32_t *words, size_t count)
 {
-    static const uint32_t zeros[LEAF_WORDS];
+    static const uint32_t zeros[PW_CALIBRATION];
     struct leaf_calibration_answer answer = leaf_calibration_of(words, count, true);
     expect(answer.refusal == 8 && !answer.calibration.valid && same_words(answer.calibration.words, zeros),
            "refused words", count);
@@ -222,45 +222,45 @@ static void check_refused(const uint32_t *words, size_t count)
 static void check_lent_words(uint64_t *state)
 {
     struct pages p = guarded_pages();
-    uint32_t words[LEAF_WORDS];
+    uint32_t words[PW_CALIBRATION];
     uint32_t *const ends[] = {(uint32_t *)(void *)p.page, (uint32_t *)(void *)(p.page + p.size - sizeof words)};
     for (int k = 0; k < 2000; k++) {
         uint32_t *lent = ends[k % 2];
         bool valid = k % 3 == 0;
-        for (int j = 0; j < LEAF_WORDS; j++)
+        for (int j = 0; j < PW_CALIBRATION; j++)
             words[j] = (uint32_t)next(state);
         protect(p, PROT_READ | PROT_WRITE);
         memcpy(lent, words, sizeof words);
         protect(p, PROT_READ);
-        struct leaf_calibration_answer answer = leaf_calibration_of(lent, LEAF_WORDS, valid);
+        struct leaf_calibration_answer answer = leaf_calibration_of(lent, PW_CALIBRATION, valid);
         expect(answer.refusal == 0 && answer.calibration.valid == valid && same_words(answer.calibration.words, words),
                "calibration_of", (uint64_t)k);
         expect(same_words(lent, words), "the lent words", (uint64_t)k);
     }
     protect(p, PROT_NONE);
     for (size_t count = 0; count < 300; count++)
-        if (count != LEAF_WORDS)
+        if (count != PW_CALIBRATION)
             check_refused(ends[0], count);
-    check_refused(ends[0], 0x100 + LEAF_WORDS);
-    check_refused(ends[0], ((size_t)1 << 32) + LEAF_WORDS);
+    check_refused(ends[0], 0x100 + PW_CALIBRATION);
+    check_refused(ends[0], ((size_t)1 << 32) + PW_CALIBRATION);
     check_refused(ends[0], SIZE_MAX / 8);
 }
 
 /* Document 01's rule of `cal`. */
-static float expected_cal(const struct leaf_calibration *c, uint32_t offset, float otherwise)
+static float expected_cal(const struct pw_calibration *c, uint32_t offset, float otherwise)
 {
-    float x = offset / 4 < LEAF_WORDS ? float_of(c->words[offset / 4]) : otherwise;
+    float x = offset / 4 < PW_CALIBRATION ? float_of(c->words[offset / 4]) : otherwise;
     return c->valid && isfinite(x) && x < 1000000.0f && x > -1000000.0f ? x : otherwise;
 }
 
-static void check_cal(const struct leaf_calibration *c, uint32_t offset, float otherwise)
+static void check_cal(const struct pw_calibration *c, uint32_t offset, float otherwise)
 {
     expect(same32(leaf_cal(*c, offset, otherwise), expected_cal(c, offset, otherwise)), "cal", offset);
     expect(same32(leaf_factor(*c, offset), leaf_cal(*c, offset, 1.0f)), "factor", offset);
     expect(same32(leaf_offset(*c, offset), leaf_cal(*c, offset, 0.0f)), "offset", offset);
 }
 
-static float expected_factory(const struct leaf_calibration *c, unsigned vr)
+static float expected_factory(const struct pw_calibration *c, unsigned vr)
 {
     float g = vr == 0 ? expected_cal(c, 4, 1.0f) * expected_cal(c, 56, 1.0f) / expected_cal(c, 8, 1.0f)
                       : expected_cal(c, 52 + 4 * (vr < 3 ? vr : 3), 1.0f);
@@ -268,7 +268,7 @@ static float expected_factory(const struct leaf_calibration *c, unsigned vr)
 }
 
 /* Every range: the factory's gain, and the one in force with `stored` in one range, or in all. */
-static void check_gains(const struct leaf_calibration *c, float stored)
+static void check_gains(const struct pw_calibration *c, float stored)
 {
     for (unsigned vr = 0; vr < 256; vr = vr == 5 ? 127 : vr == 128 ? 255 : vr + 1) {
         unsigned held = vr < 3 ? vr : 3;
@@ -288,9 +288,9 @@ static void check_gains(const struct leaf_calibration *c, float stored)
 static void check_calibrations(uint64_t *state)
 {
     for (int n = 0; n < 4000; n++) {
-        struct leaf_calibration c;
+        struct pw_calibration c;
         c.valid = n % 8 != 0;
-        for (int k = 0; k < LEAF_WORDS; k++)
+        for (int k = 0; k < PW_CALIBRATION; k++)
             c.words[k] = some_word(next(state));
         for (uint32_t offset = 0; offset < 300; offset++)
             check_cal(&c, offset, float_of(some_word(next(state))));

@@ -1,6 +1,7 @@
 #!/bin/bash
 # tests/test_pwscript.sh PROGRAM: how pwscript reads lines. A bad line answers `?` and changes nothing:
-# the good lines around it answer as they do alone, and the meter made before it is kept.
+# the good lines around it answer as they do alone, and the meter made before it is kept. What calls answer is
+# compared with the published Rust (compare_calls.sh, recorded/calls.answers).
 set -u -o pipefail
 cd "$(dirname "$0")/.." || exit 1
 . tests/answers.sh
@@ -83,13 +84,8 @@ while read -r name; do
     bad "${line/f $name/f f $name}"
 done < tests/served
 
-# Lines of the protocol that are not served yet: a name that comes to tests/served leaves this list.
-for line in \
-    'f coup_name 3' 'f ring_text' 'f knobs' 'on 0' 'off 0' 'method 0 1' \
-    'coupling 0 1' 'zero 0' 'gain 0' 'reapply 0' 'ranges 0 k a' 'phase' 'ereset' 'run 1' \
-    'set 1 3c23d70a 3f000000 423e0000 40c00000 30 0' 'frame 0 1c 0000000000000000000000000000' 'dump' 'dump on' 'hash'; do
-    bad "$line"
-done
+# Lines of the protocol that are not served.
+for line in 'f knobs' 'set 1 3c23d70a 3f000000 423e0000 40c00000 30 0'; do bad "$line"; done
 
 # Bytes: too few, too many, half of one, no hex digit.
 for bytes in 0000 00 0 000080ff 00008 00008g 0x0080 '+00080' '-00080' '00 0080' '00\0000080'; do bad "f ad1 $bytes"; done
@@ -128,12 +124,14 @@ good 'f cal 5 00000000' '= 3f8ccccd'
 good 'f cal 292 40000000' '= 40000000'
 good 'f cal 4294967295 40000000' '= 40000000'
 
-# Floats: exactly 8 hex digits of either case, or nan.
+# Floats: exactly 8 hex digits of either case, or a plus sign and 7 of them, or nan.
 good 'f sqrt 40C00000' '= 401cc470'
 good 'f sqrt 40c00000' '= 401cc470'
+good 'f sqrt +4040000' '= 21b7d375'
+good 'f max +0000000 bf800000' '= 00000000'
 good 'f sqrt nan' '= nan'
 good 'f sqrt ffc00001' '= nan'
-for float in 0 4040000 404000000 0x404000 4040000g +4040000 -4040000 NaN NAN nan0 inf 3.0 '4040\0000000' '\0300404000'; do
+for float in 0 4040000 404000000 0x404000 4040000g -4040000 +40400000 ++404000 +404000 NaN NAN nan0 inf 3.0 '4040\0000000' '\0300404000'; do
     bad "f sqrt $float"
     bad "f max $float 00000000"
     bad "f max 00000000 $float"
@@ -148,7 +146,7 @@ spoiled() {
     for ((k = 1; k <= $#; k++)); do
         bad "f $name ${*:1:k-1} ${*:k+1}"
         bad "f $name ${*:1:k} ${*:k}"
-        for word in 3f80000 3f8000000 3f80000g 0x3f8000 +3f80000 -3f80000 NaN nan0 inf full 1.0 - '3f80\0000000'; do
+        for word in 3f80000 3f8000000 3f80000g 0x3f8000 +3f800000 -3f80000 NaN nan0 inf full 1.0 - '3f80\0000000'; do
             arguments=("$@")
             arguments[k - 1]=$word
             bad "f $name ${arguments[*]}"
@@ -289,7 +287,7 @@ bad "meter $six 0 1 z 73"
 bad "meters $six 0 1 z73"
 bad "Meter $six 0 1 z73"
 bad "f meter $six 0 1 z73"
-for float in 0 3f80000 3f8000000 3f80000g +f800000 NaN nan0 1.0 -; do
+for float in 0 3f80000 3f8000000 3f80000g +3f800000 NaN nan0 1.0 -; do
     bad "meter $float ${six#* } 0 1 z73"
     bad "meter ${six% *} $float 0 1 z73"
     bad "meter ${six% *} $float 0 1 z72"
@@ -299,11 +297,97 @@ for mark in 2 -1 +1 00 01 10 true yes 0x1 - '1\0000'; do
     bad "meter $six 0 $mark z73"
 done
 for list in z zx z-1 z-0 z+ z73x z7.3e1 z0x49 zz73 Z73 z18446744073709551616 z18446744073709551689 z99999999999999999999 \
-    nan none 0 73 -- 3f80000 3f8000000 3f80000g "${words73%?}" "${words73}0" "${words73%?}g" "g${words73#?}" "+${words73#?}" \
+    nan none 0 73 -- 3f80000 3f8000000 3f80000g "${words73%?}" "${words73}0" "${words73%?}g" "g${words73#?}" "++${words73#??}" \
     "$words73$words73${words73%?}g" "0x$words73" 'z73\0000'; do
     bad "meter $six 0 1 $list"
     bad "meter ${six% *} nan 0 1 $list"
 done
+
+# Calls to a meter. `hash` before and after says that a line which is not understood has changed nothing.
+on='0 mark=555 used=0 reading=0\n' hash='H f582f26fe1caf57e\n'
+taken() { says "${meter}on 5\n$1\n" "$made$on$2\n"; }
+refused_call() { says "${meter}on 5\nhash\n$1\nhash\n" "$made$on$hash$2 mark=- used=0 reading=0\n$hash"; }
+not_understood() { says "${meter}on 5\nhash\n$1\nhash\n" "$made$on$hash?\n$hash"; }
+frame14=00112233445566778899aabbccdd
+calls=('on 9' 'off 9' 'method 9 1' 'ranges 9 1 2' 'coupling 9 3' 'zero 9' 'gain 9' 'phase' 'ereset' 'run 0' 'reapply 9' \
+    "frame 9 1c $frame14" 'frame 9 1c -')
+
+# None before a meter is made, nor after a refused one; nor a dump or a hash.
+for line in "${calls[@]}" dump hash 'f ring_text'; do
+    says "$line\n" '?\n'
+    says "meter $six 0 1 z72\n$line\n$ad1" "$eight\n?\n$ad1_is"
+done
+
+# A word too few or too many, another case, another name.
+for line in "${calls[@]}"; do
+    not_understood "$line 0"
+    not_understood "$line -"
+    not_understood "$line # no comment"
+    not_understood "x$line"
+    not_understood "${line^}"
+    not_understood "${line}\0000"
+    not_understood "f $line"
+    [ "$line" = "${line% *}" ] || not_understood "${line% *}"
+    [ "$line" = "${line#* }" ] || not_understood "${line/ /}"
+done
+
+# Times: below 2^64, with a plus sign and zeros before them as one likes; 2^48 and more are refused.
+taken 'on +000007' '0 mark=557 used=0 reading=0'
+taken 'on 281474976710655' '0 mark=281474976711205 used=0 reading=0'
+for time in 281474976710656 18446744073709551615 +00018446744073709551615; do
+    for line in "${calls[@]}"; do
+        case $line in *\ 9*) refused_call "${line/ 9/ $time}" 5 ;; esac
+    done
+done
+for time in -1 -0 + - 18446744073709551616 99999999999999999999 1.0 1e3 0x9 9a nan k '9\0000'; do
+    for line in "${calls[@]}"; do
+        case $line in *\ 9*) not_understood "${line/ 9/ $time}" ;; esac
+    done
+done
+
+# Marks, ranges, couplings.
+for mark in 2 -1 +1 +0 00 01 10 true yes - k a; do
+    not_understood "method 9 $mark"
+    not_understood "run $mark"
+done
+taken 'ranges 9 +002 k' '0 mark=559 used=0 reading=0'
+taken 'ranges 9 a 000255' '0 mark=- used=0 reading=0'
+taken 'ranges 9 255 a' '0 mark=- used=0 reading=0'
+taken 'coupling 9 +0255' '0 mark=559 used=0 reading=0'
+for range in 256 -1 -0 + - K A ka kk aa auto keep 1.0 0x1 nan '1\0000'; do
+    not_understood "ranges 9 $range k"
+    not_understood "ranges 9 a $range"
+    not_understood "coupling 9 $range"
+done
+not_understood 'coupling 9 k'
+not_understood 'coupling 9 a'
+
+# Flags: a byte in hex digits, as many as one likes. Bytes: whole ones, in either case; not 14 are refused.
+for flags in 0 c 1c 1C +1c 00000000001c ff +0ff; do taken "frame 9 $flags $frame14" '0 mark=- used=0 reading=0'; done
+for flags in 100 001ff -1 -0 + - ++1 g 1g 0x1c nan '1c\0000'; do not_understood "frame 9 $flags $frame14"; done
+taken "frame 9 1c ${frame14^^}" '0 mark=- used=0 reading=0'
+for bytes in - 00 "${frame14%??}" "${frame14}00" "$frame14$frame14"; do refused_call "frame 9 1c $bytes" 4; done
+for bytes in 0 "${frame14%?}" "${frame14}0" "${frame14%?}g" "g${frame14#?}" "+${frame14#?}" "+0${frame14#??}" "0x$frame14" -- -00 nan \
+    "${frame14%?}\0000"; do
+    not_understood "frame 9 1c $bytes"
+done
+
+# Dumps and hashes. shape INPUT EXPECTED: the first word of each line of the answer.
+shape() {
+    printf '%b' "$1" > "$work/in"
+    [ "$("$program" < "$work/in" | cut -d ' ' -f 1 | paste -s -d ' ')" = "$2" ]
+    count "$1" $?
+}
+dump='D0 D1 D2 D3 D4 D5 D6 D7 D8 D9 D10 D11'
+shape "${meter}dump\n" "0 $dump"
+shape "dump on\n${meter}on 5\ndump off\non 6\n" "0 0 $dump 0"
+shape "${meter}dump on again and again\non 281474976710656\nset\nhash\ndump\n$ad1$meter" "0 5 $dump ? H $dump = 0"
+shape "${meter}dump on\ndump offf\ndump\non 5\ndump off it\non 6\n" "0 ? $dump 0 $dump 0"
+for word in ON Off of onn 0 1 - now '#' 'x on'; do not_understood "dump $word"; done
+for line in 'hash' 'hash on' 'hash # of the dump' 'hash 1 2 3 4 5 6 7 8 9 10 11 12 13 14 15 16 17 18'; do
+    says "${meter}on 5\n$line\n" "$made$on$hash"
+done
+for line in hashes Hash HASH 'dumps' 'Dump'; do not_understood "$line"; done
 
 # Bad lines of other kinds.
 for line in f 'f ' x '?' '=' sqrt 'sqrt 40400000' ';' '= 3fddb3d8' 'f # sqrt' 'f sqrt # 40400000' 'f sqrt 40400000 # three' \

@@ -1,5 +1,5 @@
-/* test_readouts: how values are shown, beside the rule written out in C: leaf_reading_vals, leaf_energy_val,
- * leaf_bt_main, leaf_no_neg_zero, leaf_signum and leaf_bt_mode_byte, over values of any bytes and near every
+/* test_readouts: how values are shown, beside the rule written out in C: pw_reading_vals, pw_energy_val,
+ * pw_bt_main, leaf_no_neg_zero, leaf_signum and pw_bt_mode_byte, over values of any bytes and near every
  * bound.
  *
  * The last line counts the checks, and the status is 1 where one failed. */
@@ -37,62 +37,62 @@ static struct expected_val val_of(struct shown_as as, bool over)
     return (struct expected_val){as, over};
 }
 
-static uint8_t v_range(const struct leaf_power_vals *pv)
+static uint8_t v_range(const struct pw_power_vals *pv)
 {
     return pv->ranges.vr > 3 ? 3 : pv->ranges.vr;
 }
 
-static uint8_t i_range(const struct leaf_power_vals *pv)
+static uint8_t i_range(const struct pw_power_vals *pv)
 {
     return pv->ranges.ik > 5 ? 5 : pv->ranges.ik;
 }
 
-static float full_scale(const struct leaf_power_vals *pv)
+static float full_scale(const struct pw_power_vals *pv)
 {
     static const float v_lim[] = {6.0f, 60.0f, 600.0f, 1000.0f};
     static const float i_lim[] = {600e-6f, 6e-3f, 0.06f, 0.6f, 6.0f, 10.0f};
     return product(v_lim[v_range(pv)], i_lim[i_range(pv)]);
 }
 
-static bool is_over(const struct leaf_power_vals *pv)
+static bool is_over(const struct pw_power_vals *pv)
 {
     return pv->limits.v_ol || pv->limits.i_ol;
 }
 
 /* The power, apparent in the alternating method. */
-static float power_of(const struct leaf_power_vals *pv)
+static float power_of(const struct pw_power_vals *pv)
 {
     return pv->in_force.alt ? pv->load.s : pv->load.p;
 }
 
-static struct expected_val power_val(const struct leaf_power_vals *pv)
+static struct expected_val power_val(const struct pw_power_vals *pv)
 {
     return val_of(power_shown(full_scale(pv), power_of(pv), !pv->in_force.alt), is_over(pv));
 }
 
 /* It is never over. */
-static struct expected_val energy_val(const struct leaf_power_vals *pv, bool va)
+static struct expected_val energy_val(const struct pw_power_vals *pv, bool va)
 {
     return val_of(energy_shown(va ? pv->energies.vah : pv->energies.e_wh, va), false);
 }
 
-static struct expected_val main_val(const struct leaf_power_vals *pv)
+static struct expected_val main_val(const struct pw_power_vals *pv)
 {
     uint8_t main = pv->in_force.main;
     return main == 1 || main == 2 ? energy_val(pv, main == 2 || pv->in_force.alt) : power_val(pv);
 }
 
-static struct expected_val box_val(const struct leaf_power_vals *pv)
+static struct expected_val box_val(const struct pw_power_vals *pv)
 {
     return pv->in_force.main == 0 ? energy_val(pv, pv->in_force.alt) : power_val(pv);
 }
 
-static struct expected_val volts(const struct leaf_power_vals *pv)
+static struct expected_val volts(const struct pw_power_vals *pv)
 {
     return val_of((struct shown_as){pv->load.v, (uint8_t)(4 - v_range(pv)), "V"}, pv->limits.v_ol);
 }
 
-static struct expected_val amperes(const struct leaf_power_vals *pv)
+static struct expected_val amperes(const struct pw_power_vals *pv)
 {
     static const struct {
         float factor;
@@ -106,7 +106,7 @@ static struct expected_val amperes(const struct leaf_power_vals *pv)
 
 /* A power as volts, mW as mV: kW are shown in W without decimals. As many decimals as leave less than 65535
  * counts, rounded; with none the number is held. */
-static struct expected_val telephone(const struct leaf_power_vals *pv)
+static struct expected_val telephone(const struct pw_power_vals *pv)
 {
     struct shown_as as = power_shown(full_scale(pv), power_of(pv), true);
     bool kilo = strcmp(as.unit, "kW") == 0;
@@ -139,7 +139,7 @@ static void count(enum met which, bool was)
 
 /* ---- comparing ---- */
 
-static void expect_val(struct leaf_val got, struct expected_val e, const char *what)
+static void expect_val(struct pw_val got, struct expected_val e, const char *what)
 {
     bool holds = same32(got.number, e.as.number) && got.decimals == e.as.decimals && got.over == e.over
                  && got.unit < PW_UNITS && strcmp(pw_unit_name(got.unit), e.as.unit) == 0;
@@ -148,16 +148,16 @@ static void expect_val(struct leaf_val got, struct expected_val e, const char *w
                e.as.unit, e.over, bits32(got.number), got.decimals, pw_unit_name(got.unit), got.over);
 }
 
-static void check_values(const struct leaf_power_vals *pv)
+static void check_values(const struct pw_power_vals *pv)
 {
-    struct leaf_readouts r = leaf_reading_vals(*pv);
+    struct pw_readouts r = pw_reading_vals(*pv);
     struct expected_val main = main_val(pv), bt = telephone(pv);
     expect_val(r.main, main, "the main readout");
     expect_val(r.v, volts(pv), "the volts");
     expect_val(r.i, amperes(pv), "the amperes");
     expect(same32(r.si, is_over(pv) ? 0.0f : power_of(pv)), "the power in W or VA");
-    expect_val(leaf_energy_val(*pv), box_val(pv), "the energy box");
-    expect_val(leaf_bt_main(*pv), bt, "the telephone's value");
+    expect_val(pw_energy_val(*pv), box_val(pv), "the energy box");
+    expect_val(pw_bt_main(*pv), bt, "the telephone's value");
     bool energy = pv->in_force.main == 1 || pv->in_force.main == 2;
     count(OVER, main.over);
     count(ENERGY, energy);
@@ -172,9 +172,9 @@ static void check_values(const struct leaf_power_vals *pv)
 /* ---- values to try ---- */
 
 /* Any bits in each field; a bool is yes or no. */
-static struct leaf_power_vals any_values(uint64_t *state)
+static struct pw_power_vals any_values(uint64_t *state)
 {
-    struct leaf_power_vals pv = {.hint = 0};
+    struct pw_power_vals pv = {.hint = 0};
     for (const struct field *f = value_fields; f < value_fields + VALUE_FIELDS; f++) {
         uint64_t r = next(state);
         set_value(&pv, f, 0, f->kind == BOOL ? r & 1 : r);
@@ -189,9 +189,9 @@ static float some_value(uint64_t *state)
     return r < 3 ? near_bound(state) : r < 6 ? some_figure(next(state), 17) : some_float(state, 8);
 }
 
-static struct leaf_power_vals likely_values(uint64_t *state)
+static struct pw_power_vals likely_values(uint64_t *state)
 {
-    struct leaf_power_vals pv = any_values(state);
+    struct pw_power_vals pv = any_values(state);
     uint64_t r = next(state);
     float *floats[] = {&pv.load.p, &pv.load.s, &pv.load.v, &pv.load.i, &pv.energies.e_wh, &pv.energies.vah};
     for (size_t k = 0; k < 6; k++)
@@ -243,18 +243,18 @@ static void check_signum(uint64_t *state)
 static void check_mode_byte(void)
 {
     for (unsigned vr = 0; vr < 256; vr++) {
-        expect(leaf_bt_mode_byte(true, (uint8_t)vr) == 40, "the mode byte of an automatic range");
-        expect(leaf_bt_mode_byte(false, (uint8_t)vr) == (vr < 3 ? 8 * (vr + 1) : 32), "the mode byte of a range");
+        expect(pw_bt_mode_byte(true, (uint8_t)vr) == 40, "the mode byte of an automatic range");
+        expect(pw_bt_mode_byte(false, (uint8_t)vr) == (vr < 3 ? 8 * (vr + 1) : 32), "the mode byte of a range");
     }
 }
 
 int main(void)
 {
     uint64_t state = 66;
-    struct leaf_power_vals zero = no_values();
+    struct pw_power_vals zero = no_values();
     check_values(&zero);
     for (int k = 0; k < 400000; k++) {
-        struct leaf_power_vals any = any_values(&state), likely = likely_values(&state);
+        struct pw_power_vals any = any_values(&state), likely = likely_values(&state);
         check_values(&any);
         check_values(&likely);
     }

@@ -7,7 +7,7 @@
 #include "fields.h"
 #include "meters.h"
 
-static void expect_same(const struct leaf_pw *expected, const struct leaf_pw *got, const char *what)
+static void expect_same(const struct pw_meter *expected, const struct pw_meter *got, const char *what)
 {
     checks++;
     failed += differences(expected, got, what, failed <= 10 ? 4 : 0) == 0 ? 0 : 1;
@@ -16,9 +16,9 @@ static void expect_same(const struct leaf_pw *expected, const struct leaf_pw *go
 /* ---- a meter just made ---- */
 
 /* Random bits; from 2^-20 to 2^20 in the description. */
-static struct leaf_description some_description(uint64_t *state)
+static struct pw_description some_description(uint64_t *state)
 {
-    struct leaf_description d;
+    struct pw_description d;
     float *numbers[] = {&d.mv_div[0], &d.mv_div[1], &d.shunt[0], &d.shunt[1], &d.shunt[2], &d.over};
     for (size_t k = 0; k < 6; k++) {
         uint64_t r = next(state);
@@ -28,10 +28,10 @@ static struct leaf_description some_description(uint64_t *state)
     return d;
 }
 
-static struct leaf_calibration some_calibration(uint64_t *state)
+static struct pw_calibration some_calibration(uint64_t *state)
 {
-    struct leaf_calibration c;
-    for (size_t k = 0; k < LEAF_WORDS; k++)
+    struct pw_calibration c;
+    for (size_t k = 0; k < PW_CALIBRATION; k++)
         c.words[k] = (uint32_t)next(state);
     c.valid = (next(state) & 1) != 0;
     return c;
@@ -40,11 +40,11 @@ static struct leaf_calibration some_calibration(uint64_t *state)
 /* What the published text's Pw::new does not set to zero, no or none: COUP_DC is 1, R34_XY 88h,
  * SHUNT_OHM 0.01, 0.5 and 47.5, I_CONT_DEFAULT 6, T_LIM_DEFAULT 30, R20_SENSE 10h and R21_DEFAULT
  * DDh. MAIN_P, CAL_NONE and JR_NONE are 0. */
-static struct leaf_pw just_made(struct leaf_description d, struct leaf_calibration c)
+static struct pw_meter just_made(struct pw_description d, struct pw_calibration c)
 {
-    struct leaf_pw pw = {.description = d, .calibration = c};
+    struct pw_meter pw = {.description = d, .calibration = c};
     pw.mode.coup = 1;
-    pw.ranges = (struct leaf_ranges){.vr = 3, .ik = 5, .v_auto = true, .i_auto = true};
+    pw.ranges = (struct pw_ranges){.vr = 3, .ik = 5, .v_auto = true, .i_auto = true};
     pw.cycle.stat = 0x88;
     pw.clock.run = true;
     pw.settings.r_path[0] = 0.01f;
@@ -52,21 +52,21 @@ static struct leaf_pw just_made(struct leaf_description d, struct leaf_calibrati
     pw.settings.r_path[2] = 47.5f;
     pw.settings.i_cont = 6.0f;
     pw.settings.t_lim = 30;
-    pw.job.job_save = (struct leaf_ranges){.vr = 3, .ik = 5, .v_auto = true, .i_auto = true};
-    pw.comparator = (struct leaf_comparator){.r20 = 0x10, .r21 = 0xDD, .f_ok = true, .cmp_vr = 255};
+    pw.job.job_save = (struct pw_ranges){.vr = 3, .ik = 5, .v_auto = true, .i_auto = true};
+    pw.comparator = (struct pw_comparator){.r20 = 0x10, .r21 = 0xDD, .f_ok = true, .cmp_vr = 255};
     return pw;
 }
 
 static void check_made(uint64_t *state)
 {
-    struct leaf_description ones = {{1.0f, 1.0f}, {1.0f, 1.0f, 1.0f}, 1.0f, false};
-    struct leaf_calibration none = {{0}, false};
-    struct leaf_pw plain = leaf_pw_new(ones, none), expected = just_made(ones, none);
+    struct pw_description ones = {{1.0f, 1.0f}, {1.0f, 1.0f, 1.0f}, 1.0f, false};
+    struct pw_calibration none = {{0}, false};
+    struct pw_meter plain = leaf_pw_new(ones, none), expected = just_made(ones, none);
     expect_same(&expected, &plain, "the plain meter");
     for (int k = 0; k < 1000; k++) {
-        struct leaf_description d = some_description(state);
-        struct leaf_calibration c = some_calibration(state);
-        struct leaf_pw made = leaf_pw_new(d, c);
+        struct pw_description d = some_description(state);
+        struct pw_calibration c = some_calibration(state);
+        struct pw_meter made = leaf_pw_new(d, c);
         expected = just_made(d, c);
         expect_same(&expected, &made, "a meter just made");
     }
@@ -78,7 +78,7 @@ static void check_made(uint64_t *state)
 static void check_not_ready(uint64_t *state)
 {
     static const uint8_t flags[] = {0x00, 0x08, 0x10, 0xE3, 0xEB, 0xF3};
-    struct leaf_pw pw = some_meter(state), copy = pw;
+    struct pw_meter pw = some_meter(state), copy = pw;
     uint64_t r = next(state);
     uint8_t f = flags[r % 6];
     struct leaf_outcome got = leaf_frame(copy, r, f, (int32_t)r, (int32_t)(r >> 8), (int64_t)r);
@@ -90,7 +90,7 @@ static void check_not_ready(uint64_t *state)
 }
 
 /* What an apply sets, written from the published text's pw_apply. */
-static struct leaf_pw applied(struct leaf_pw pw, uint8_t keep)
+static struct pw_meter applied(struct pw_meter pw, uint8_t keep)
 {
     static const uint8_t cycle[4] = {0x88, 0x8C, 0x88, 0x80};
     bool b = !pw.mode.dc && !pw.mode.alt;
@@ -98,7 +98,7 @@ static struct leaf_pw applied(struct leaf_pw pw, uint8_t keep)
     pw.cycle.seen = pw.cycle.seen & (keep == 2 || keep == 4 ? keep : 0);
     pw.cycle.taken = 0;
     if (pw.comparator.cmp_vr != pw.ranges.vr)
-        pw.comparator = (struct leaf_comparator){0x10, 0xDD, true, pw.ranges.vr};
+        pw.comparator = (struct pw_comparator){0x10, 0xDD, true, pw.ranges.vr};
     pw.cycle.skip = pw.mode.dc ? 1 : pw.mode.alt ? 4 : 0;
     pw.cycle.skip_y = 1;
     pw.cycle.stat = cycle[pw.cycle.phase];
@@ -107,12 +107,12 @@ static struct leaf_pw applied(struct leaf_pw pw, uint8_t keep)
 
 static void check_apply(uint64_t *state)
 {
-    struct leaf_pw pw = some_meter(state);
+    struct pw_meter pw = some_meter(state);
     uint64_t r = next(state), now = r >> (r & 31);
     uint8_t keep = (uint8_t)(r >> 56) & ((r & 32) != 0 ? 0xFF : 7);
     if ((r & 64) != 0)
         pw.comparator.cmp_vr = pw.ranges.vr;
-    struct leaf_pw expected = applied(pw, keep);
+    struct pw_meter expected = applied(pw, keep);
     struct leaf_outcome got = leaf_apply(pw, keep, now);
     expect_same(&expected, &got.pw, "an apply");
     uint64_t deadline = now > UINT64_MAX - 550 ? UINT64_MAX : now + 550;
@@ -122,7 +122,7 @@ static void check_apply(uint64_t *state)
 
 static void check_last_deadlines(uint64_t *state)
 {
-    struct leaf_pw pw = some_meter(state);
+    struct pw_meter pw = some_meter(state);
     expect(leaf_apply(pw, 0, UINT64_MAX - 551).mark.at == UINT64_MAX - 1, "a deadline before it");
     expect(leaf_apply(pw, 0, UINT64_MAX - 550).mark.at == UINT64_MAX, "the last deadline");
     expect(leaf_apply(pw, 0, UINT64_MAX - 549).mark.at == UINT64_MAX, "a deadline held");
@@ -130,10 +130,10 @@ static void check_last_deadlines(uint64_t *state)
 }
 
 /* A meter in DC coupling that is on and drops no result, and has no words. */
-static struct leaf_pw meter_in(uint8_t ik, bool i_auto, uint8_t barred, float over)
+static struct pw_meter meter_in(uint8_t ik, bool i_auto, uint8_t barred, float over)
 {
-    struct leaf_description d = {{1.0f, 1.0f}, {1.0f, 1.0f, 1.0f}, over, false};
-    struct leaf_pw pw = leaf_pw_new(d, (struct leaf_calibration){.valid = false});
+    struct pw_description d = {{1.0f, 1.0f}, {1.0f, 1.0f, 1.0f}, over, false};
+    struct pw_meter pw = leaf_pw_new(d, (struct pw_calibration){.valid = false});
     pw.mode.on = pw.mode.dc = true;
     pw.ranges.ik = ik;
     pw.ranges.i_auto = i_auto;
@@ -144,7 +144,7 @@ static struct leaf_pw meter_in(uint8_t ik, bool i_auto, uint8_t barred, float ov
 /* Frames go on alike from a meter and from a copy of its bytes. */
 static void check_copies(uint64_t *state)
 {
-    struct leaf_pw pw = meter_in(5, true, 0, 1.03f), copy;
+    struct pw_meter pw = meter_in(5, true, 0, 1.03f), copy;
     for (uint64_t now = 0; now < 100000; now += 100) {
         unsigned char bytes[sizeof pw];
         memcpy(bytes, &pw, sizeof pw);
@@ -168,7 +168,7 @@ static void check_unmarked_zeros(uint64_t *state)
     static const uint8_t stats[] = {0x88, 0x8C, 0x80};
     for (int k = 0; k < 1000; k++) {
         uint64_t r = next(state);
-        struct leaf_pw pw = meter_in((uint8_t)(r % 6), true, 0, 1.03f), other;
+        struct pw_meter pw = meter_in((uint8_t)(r % 6), true, 0, 1.03f), other;
         pw.mode.dc = (r & 8) != 0;
         pw.mode.alt = (r & 16) != 0;
         pw.cycle.phase = r >> 5 & 1;
@@ -189,12 +189,12 @@ static void check_unmarked_zeros(uint64_t *state)
 static void check_window_kept(uint64_t *state)
 {
     for (int k = 0; k < 1000; k++) {
-        struct leaf_pw pw = meter_in(5, true, 0, 1.03f);
+        struct pw_meter pw = meter_in(5, true, 0, 1.03f);
         pw.mode.dc = false;
         pw.cycle.seen = 7;
-        pw.parts = (struct leaf_parts){100.0f, 230.0f, 1.0f, 2.0f, 0.5f, 0.0f};
+        pw.parts = (struct pw_parts){100.0f, 230.0f, 1.0f, 2.0f, 0.5f, 0.0f};
         pw.comparator = some_meter(state).comparator;
-        struct leaf_pw got = leaf_frame(pw, 1000, 0x18, 0, 0, 1000000).pw, expected = got;
+        struct pw_meter got = leaf_frame(pw, 1000, 0x18, 0, 0, 1000000).pw, expected = got;
         expected.comparator = pw.comparator;
         expect(got.cycle.phase == 1, "the phase after a result of XY");
         expect_same(&expected, &got, "the comparator after a result of XY");
@@ -208,7 +208,7 @@ static void check_barred_floor(void)
     static const uint8_t floors[] = {0, 4, 2};
     for (uint8_t barred = 0; barred < 3; barred++)
         for (uint8_t ik = 0; ik < 6; ik++) {
-            struct leaf_pw pw = meter_in(ik, true, barred, 1.0f);
+            struct pw_meter pw = meter_in(ik, true, barred, 1.0f);
             struct leaf_outcome got = leaf_frame(pw, 1000, 0x04, 0, 0, 0);
             bool down = ik > floors[barred];
             expect(got.pw.ranges.ik == (down ? ik - 1 : ik), "the floor of what is barred");
@@ -222,7 +222,7 @@ static void check_barred_again(void)
 {
     for (uint8_t barred = 0; barred < 3; barred++)
         for (uint8_t ik = 0; ik < 4; ik++) {
-            struct leaf_pw pw = meter_in(ik, false, barred, 1.0f / 1048576.0f);
+            struct pw_meter pw = meter_in(ik, false, barred, 1.0f / 1048576.0f);
             struct leaf_outcome got = leaf_frame(pw, 1000, 0x04, 8388607, 0, 0);
             uint8_t unit = ik < 2 ? 2 : 1, least = barred == 0 || unit < barred ? unit : barred;
             expect(got.pw.ranges.ik == 5 && got.mark.set && got.mark.at == 1550, "a trip");

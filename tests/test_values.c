@@ -1,5 +1,5 @@
-/* test_values: what is read off a meter, beside the rule written out in C (value_rule.h): leaf_pw_vals,
- * leaf_pw_state, leaf_pw_partial and leaf_integrating, over meters of any bytes. Many are such as no order
+/* test_values: what is read off a meter, beside the rule written out in C (value_rule.h): pw_vals,
+ * pw_state, pw_partial and pw_integrating, over meters of any bytes. Many are such as no order
  * leads to: ranges past the tables, jobs of any number, a clock behind the start of an overload.
  *
  * The last line counts the checks, and the status is 1 where one failed. */
@@ -9,7 +9,7 @@
 #include "shown.h"
 #include "value_rule.h"
 
-static void expect_values(const struct leaf_power_vals *expected, const struct leaf_power_vals *got, const char *what)
+static void expect_values(const struct pw_power_vals *expected, const struct pw_power_vals *got, const char *what)
 {
     checks++;
     size_t most = failed <= 10 ? 4 : 0;
@@ -30,10 +30,10 @@ static void count(enum met which, bool was)
     met[which] += was ? 1 : 0;
 }
 
-static void count_cases(const struct leaf_pw *pw, const struct leaf_vals *v)
+static void count_cases(const struct pw_meter *pw, const struct pw_vals *v)
 {
     bool yes = v->measured, b = yes && way_of(pw) == B, of_i = pw->comparator.r20 == OF_CURRENT;
-    const struct leaf_limits *l = &v->vals.limits;
+    const struct pw_limits *l = &v->vals.limits;
     count(NOT_MEASURED, !yes);
     count(IN_B, b);
     count(IN_ALT, yes && way_of(pw) == ALTERNATING);
@@ -55,7 +55,7 @@ static void count_cases(const struct leaf_pw *pw, const struct leaf_vals *v)
     count(NO_F_V, b && pw->comparator.f_ok && !of_i && !has_volts(pw) && has_amperes(pw));
     count(NO_F_I, b && pw->comparator.f_ok && of_i && !has_amperes(pw) && has_volts(pw));
     count(NO_PHASE, b && isnan(v->vals.load.s) && !isnan(v->vals.load.p));
-    struct leaf_parts p = counted(pw);
+    struct pw_parts p = counted(pw);
     float r = pw->settings.comp ? path(pw) : 0.0f;
     count(NOISE, b && has_volts(pw) && has_amperes(pw) && v->vals.load.q == 0.0f
                      && leaf_totals(p.p_ac, p.v_ac, p.v_dc, p.i_ac, p.i_dc, r).q > 0.0f);
@@ -90,7 +90,7 @@ static uint8_t some_byte(uint64_t *state, uint64_t most)
     return (uint8_t)((r >> 8) % ((r & 7) == 0 ? 256 : most + 1));
 }
 
-static void set_times(uint64_t *state, struct leaf_pw *pw)
+static void set_times(uint64_t *state, struct pw_meter *pw)
 {
     uint64_t r = next(state);
     pw->tally.t_int >>= r & 63;
@@ -101,10 +101,10 @@ static void set_times(uint64_t *state, struct leaf_pw *pw)
 }
 
 /* Of any bytes, but for some of the fields such as a meter has them. */
-static struct leaf_pw likely_meter(uint64_t *state)
+static struct pw_meter likely_meter(uint64_t *state)
 {
     static const uint8_t couplings[] = {ACDC, AC, 1, ACDC};
-    struct leaf_pw pw = some_meter(state);
+    struct pw_meter pw = some_meter(state);
     uint64_t r = next(state);
     pw.mode.on = (r & 7) != 0;
     pw.cycle.seen |= (r >> 3 & 3) != 0 ? 7 : 0;
@@ -118,7 +118,7 @@ static struct leaf_pw likely_meter(uint64_t *state)
     if ((r >> 13 & 3) != 0)
         pw.description.over = 0.5f + (float)(r >> 16 & 0xFF) * 0x1p-8f;
     float v = v_limit(&pw), i = i_limit(&pw);
-    pw.parts = (struct leaf_parts){0.0f, some_part(state, v), some_part(state, v), some_part(state, i),
+    pw.parts = (struct pw_parts){0.0f, some_part(state, v), some_part(state, v), some_part(state, i),
                                    some_part(state, i), some_part(state, v)};
     pw.parts.p_ac = pw.parts.v_ac * pw.parts.i_ac * (1.0f - (float)(r >> 24 & 0xFFF) * 0x1p-12f * (float)(r >> 36 & 3));
     for (size_t k = 0; k < 3; k++)
@@ -130,9 +130,9 @@ static struct leaf_pw likely_meter(uint64_t *state)
 }
 
 /* An over ratio that puts a limit at the value, or a float beside it. */
-static struct leaf_pw meter_at_limit(uint64_t *state)
+static struct pw_meter meter_at_limit(uint64_t *state)
 {
-    struct leaf_pw pw = likely_meter(state);
+    struct pw_meter pw = likely_meter(state);
     uint64_t r = next(state);
     bool v = (r & 1) != 0;
     float value = v ? leaf_hypot(pw.parts.v_ac, pw.parts.v_dc) : leaf_hypot(pw.parts.i_ac, pw.parts.i_dc);
@@ -140,49 +140,49 @@ static struct leaf_pw meter_at_limit(uint64_t *state)
     return pw;
 }
 
-static void check_meter(struct leaf_pw pw)
+static void check_meter(struct pw_meter pw)
 {
-    struct leaf_vals expected = expected_vals(&pw), got = leaf_pw_vals(pw);
+    struct pw_vals expected = expected_vals(&pw), got = pw_vals(pw);
     expect(got.measured == expected.measured, "whether there are values");
     expect_values(&expected.vals, &got.vals, "the values");
-    struct leaf_power_vals state = expected.measured ? expected.vals : unmeasured(&pw), shown = leaf_pw_state(pw);
+    struct pw_power_vals state = expected.measured ? expected.vals : unmeasured(&pw), shown = pw_state(pw);
     expect_values(&state, &shown, "the state");
-    struct leaf_partial e = expected_partial(&pw), g = leaf_pw_partial(pw);
+    struct pw_partial e = expected_partial(&pw), g = pw_partial(pw);
     expect(g.text == e.text && g.with_volts == e.with_volts, "what is shown in place of a reading");
     expect(same32(g.volts.number, e.volts.number) && g.volts.decimals == e.volts.decimals
                && g.volts.unit == e.volts.unit && g.volts.over == e.volts.over,
            "the volts in place of a reading");
-    expect(leaf_integrating(pw) == expected_integrating(&pw), "whether energy is being counted");
+    expect(pw_integrating(pw) == expected_integrating(&pw), "whether energy is being counted");
     count_cases(&pw, &expected);
 }
 
 /* Currents of about 50 uA: only those above it. (None is 50 uA: leaf_hypot is never the float nearest it.) */
 static void check_current_floor(void)
 {
-    struct leaf_pw pw = {.mode = {.on = true}, .clock = {.run = true}, .cycle = {.seen = 4}};
+    struct pw_meter pw = {.mode = {.on = true}, .clock = {.run = true}, .cycle = {.seen = 4}};
     for (uint32_t k = 0; k < 256; k++) {
         pw.parts.i_ac = float_of(bits32(30e-6f) + k / 16 - 8);
         pw.parts.i_dc = float_of((bits32(40e-6f) + k / 2 % 8 - 4) | k << 31);
-        expect(leaf_integrating(pw) == expected_integrating(&pw), "a current beside 50 uA");
+        expect(pw_integrating(pw) == expected_integrating(&pw), "a current beside 50 uA");
     }
     pw.parts.i_ac = 0.0f;
     pw.parts.i_dc = -51e-6f;
-    expect(leaf_integrating(pw), "a current of -51 uA");
+    expect(pw_integrating(pw), "a current of -51 uA");
     pw.cycle.seen = 0xFB;
-    expect(!leaf_integrating(pw), "a current that was not seen");
+    expect(!pw_integrating(pw), "a current that was not seen");
 }
 
 /* A reactive power of about the noise: the last digits of both count. */
-static struct leaf_pw noisy_meter(uint64_t *state)
+static struct pw_meter noisy_meter(uint64_t *state)
 {
-    struct leaf_pw pw = likely_meter(state);
+    struct pw_meter pw = likely_meter(state);
     uint64_t r = next(state);
-    pw.mode = (struct leaf_mode){.on = true, .coup = (r & 1) != 0 ? AC : ACDC};
+    pw.mode = (struct pw_mode){.on = true, .coup = (r & 1) != 0 ? AC : ACDC};
     pw.settings.comp = false;
     pw.cycle.seen = 7;
-    pw.parts = (struct leaf_parts){0.0f, v_limit(&pw) * (0.006f + (float)(r >> 8 & 0xFFFF) * 0x1p-22f), 0.0f,
+    pw.parts = (struct pw_parts){0.0f, v_limit(&pw) * (0.006f + (float)(r >> 8 & 0xFFFF) * 0x1p-22f), 0.0f,
                                    i_limit(&pw) * (0.006f + (float)(r >> 24 & 0xFFFF) * 0x1p-22f), 0.0f, 0.0f};
-    struct leaf_figures t = leaf_totals(0.0f, pw.parts.v_ac, 0.0f, pw.parts.i_ac, 0.0f, 0.0f);
+    struct pw_figures t = leaf_totals(0.0f, pw.parts.v_ac, 0.0f, pw.parts.i_ac, 0.0f, 0.0f);
     double q = hypot(0.001 * v_limit(&pw) * t.i, 0.0025 * i_limit(&pw) * t.v), s = t.s;
     pw.parts.p_ac = float_of(bits32((float)sqrt(s * s - q * q)) + (uint32_t)(r >> 40 & 15) - 8);
     return pw;
@@ -191,7 +191,7 @@ static struct leaf_pw noisy_meter(uint64_t *state)
 int main(void)
 {
     uint64_t state = 6;
-    struct leaf_power_vals zero = leaf_zero_vals(), none = no_values();
+    struct pw_power_vals zero = leaf_zero_vals(), none = no_values();
     expect_values(&none, &zero, "no values");
     for (int k = 0; k < 100000; k++) {
         check_meter(some_meter(&state));

@@ -141,7 +141,7 @@ static bool store_word(struct table t, void *record, struct word w)
     if (name.length > 0 && !read_u64(name, &from))
         return false;
     for (size_t number = 0; w.length > 0; number++)
-        if (from >= LEAF_RING || !store(t, record, key, from, number, cut(&w, ",:")))
+        if (from >= PW_RING || !store(t, record, key, from, number, cut(&w, ",:")))
             return false;
     return true;
 }
@@ -176,13 +176,13 @@ static bool store_vals(struct call *c, struct word rest)
     return true;
 }
 
-static bool read_val(struct word w, struct leaf_val *v)
+static bool read_val(struct word w, struct pw_val *v)
 {
     uint64_t number, decimals, unit, over;
     if (!read_value(cut(&w, ","), F32, &number) || !read_value(cut(&w, ","), U8, &decimals)
         || !read_value(cut(&w, ","), UNIT, &unit) || !read_value(w, BOOL, &over))
         return false;
-    *v = (struct leaf_val){float_of((uint32_t)number), (uint8_t)decimals, (uint8_t)unit, over != 0};
+    *v = (struct pw_val){float_of((uint32_t)number), (uint8_t)decimals, (uint8_t)unit, over != 0};
     return true;
 }
 
@@ -199,7 +199,7 @@ static uint8_t partial_text(struct word text)
  * marks. Words follow. */
 static bool store_partial(struct call *c, struct word rest)
 {
-    struct leaf_partial *p = &c->shown.partial;
+    struct pw_partial *p = &c->shown.partial;
     memset(p, 0, sizeof *p);
     if (!word_is(cut(&rest, "="), "partial"))
         return false;
@@ -244,13 +244,13 @@ static bool read_answer(struct call *c)
 /* The description and the words of a meter that was made. */
 static bool read_meter(struct call *c)
 {
-    struct leaf_description *d = &c->after.description;
+    struct pw_description *d = &c->after.description;
     struct calibration_words words;
     if (c->count != 10 || !read_floats(c->words + 1, d->mv_div, 2)
         || !read_floats(c->words + 3, d->shunt, 3) || !read_float(c->words[6], &d->over)
         || !read_bool(c->words[7], &d->a_auto)
         || !read_bool(c->words[8], &c->after.calibration.valid)
-        || !read_calibration_words(c->words[9], &words) || words.count != LEAF_WORDS)
+        || !read_calibration_words(c->words[9], &words) || words.count != PW_CALIBRATION)
         return false;
     memcpy(c->after.calibration.words, words.at, sizeof c->after.calibration.words);
     return true;

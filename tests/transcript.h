@@ -24,13 +24,13 @@ struct call {
     struct word words[CALL_WORDS];
     size_t count;
     uint8_t refusal;
-    struct leaf_stamp mark;
+    struct pw_stamp mark;
     uint8_t used;
     bool reading;
-    struct leaf_pw before;
-    struct leaf_pw after;
-    struct leaf_vals vals;
-    struct leaf_power_vals state;
+    struct pw_meter before;
+    struct pw_meter after;
+    struct pw_vals vals;
+    struct pw_power_vals state;
     struct shown shown;
 };
 

@@ -12,48 +12,48 @@ enum { ACDC = 0, AC = 3, OF_CURRENT = 0xF0 };
 /* DC coupling in force, else the alternating method, else method B. */
 enum way { B, ALTERNATING, DIRECT };
 
-static inline enum way way_of(const struct leaf_pw *pw)
+static inline enum way way_of(const struct pw_meter *pw)
 {
     return pw->mode.dc ? DIRECT : pw->mode.alt ? ALTERNATING : B;
 }
 
-static inline float v_limit(const struct leaf_pw *pw)
+static inline float v_limit(const struct pw_meter *pw)
 {
     static const float limits[] = {6.0f, 60.0f, 600.0f, 1000.0f};
     return limits[pw->ranges.vr > 3 ? 3 : pw->ranges.vr];
 }
 
-static inline float i_limit(const struct leaf_pw *pw)
+static inline float i_limit(const struct pw_meter *pw)
 {
     static const float limits[] = {600e-6f, 6e-3f, 0.06f, 0.6f, 6.0f, 10.0f};
     return limits[pw->ranges.ik > 5 ? 5 : pw->ranges.ik];
 }
 
 /* The resistance of the path by the current's unit: uA up to 1, mA up to 3, else A. */
-static inline float path(const struct leaf_pw *pw)
+static inline float path(const struct pw_meter *pw)
 {
     return pw->settings.r_path[pw->ranges.ik > 3 ? 0 : pw->ranges.ik > 1 ? 1 : 2];
 }
 
-static inline bool has_volts(const struct leaf_pw *pw)
+static inline bool has_volts(const struct pw_meter *pw)
 {
     return pw->parts.v_ac >= 0.005f * v_limit(pw);
 }
 
-static inline bool has_amperes(const struct leaf_pw *pw)
+static inline bool has_amperes(const struct pw_meter *pw)
 {
     return pw->parts.i_ac >= 0.005f * i_limit(pw);
 }
 
-static inline float watt_hours(struct leaf_acc a)
+static inline float watt_hours(struct pw_acc a)
 {
     return (float)(((double)a.mj + (double)a.frac) / 3.6e6);
 }
 
 /* What does not need a measurement. */
-static inline struct leaf_power_vals unmeasured(const struct leaf_pw *pw)
+static inline struct pw_power_vals unmeasured(const struct pw_meter *pw)
 {
-    struct leaf_power_vals e = no_values();
+    struct pw_power_vals e = no_values();
     e.energies.e_wh = watt_hours(pw->tally.e);
     e.energies.vah = watt_hours(pw->tally.va);
     e.energies.secs = (uint32_t)(pw->tally.t_int / 1000 % (UINT64_C(1) << 32));
@@ -70,9 +70,9 @@ static inline struct leaf_power_vals unmeasured(const struct leaf_pw *pw)
 
 /* The parts that count: below a floor an AC part counts as none in method B, and in AC coupling there is no DC
  * part, but for DC coupling in force. */
-static inline struct leaf_parts counted(const struct leaf_pw *pw)
+static inline struct pw_parts counted(const struct pw_meter *pw)
 {
-    struct leaf_parts p = pw->parts;
+    struct pw_parts p = pw->parts;
     if (pw->mode.coup == AC && !pw->mode.dc)
         p.v_dc = p.i_dc = 0.0f;
     if (way_of(pw) != B)
@@ -86,15 +86,15 @@ static inline struct leaf_parts counted(const struct leaf_pw *pw)
     return p;
 }
 
-static inline struct leaf_figures load(const struct leaf_pw *pw)
+static inline struct pw_figures load(const struct pw_meter *pw)
 {
-    struct leaf_parts p = counted(pw);
+    struct pw_parts p = counted(pw);
     if (way_of(pw) == ALTERNATING) {
         float i = leaf_hypot(p.i_ac, p.i_dc);
-        return (struct leaf_figures){.p = NAN, .s = p.v_ac * i, .q = NAN, .pf = NAN, .v = p.v_ac, .i = i};
+        return (struct pw_figures){.p = NAN, .s = p.v_ac * i, .q = NAN, .pf = NAN, .v = p.v_ac, .i = i};
     }
     float r = pw->settings.comp ? path(pw) : 0.0f;
-    struct leaf_figures t = leaf_totals(p.p_ac, p.v_ac, p.v_dc, p.i_ac, p.i_dc, r);
+    struct pw_figures t = leaf_totals(p.p_ac, p.v_ac, p.v_dc, p.i_ac, p.i_dc, r);
     if (way_of(pw) == DIRECT)
         return t;
     bool phase = has_volts(pw) && has_amperes(pw);
@@ -106,11 +106,11 @@ static inline struct leaf_figures load(const struct leaf_pw *pw)
     return t;
 }
 
-static inline struct leaf_split split(const struct leaf_pw *pw)
+static inline struct pw_split split(const struct pw_meter *pw)
 {
-    struct leaf_parts p = counted(pw);
+    struct pw_parts p = counted(pw);
     float r = pw->settings.comp ? path(pw) : 0.0f;
-    struct leaf_split s = {0.0f, 0.0f, 0.0f, 0.0f, 0.0f, 0.0f};
+    struct pw_split s = {0.0f, 0.0f, 0.0f, 0.0f, 0.0f, 0.0f};
     if (way_of(pw) != B || pw->mode.coup != ACDC)
         return s;
     s.v_dc = p.v_dc - r * p.i_dc;
@@ -122,7 +122,7 @@ static inline struct leaf_split split(const struct leaf_pw *pw)
     return s;
 }
 
-static inline uint8_t hint(const struct leaf_pw *pw)
+static inline uint8_t hint(const struct pw_meter *pw)
 {
     float v = 0.005f * v_limit(pw), i = 0.005f * i_limit(pw);
     bool steady = fabsf(pw->parts.v_dc) >= v || fabsf(pw->parts.i_dc) >= i;
@@ -131,19 +131,19 @@ static inline uint8_t hint(const struct leaf_pw *pw)
     return way_of(pw) == DIRECT && (pw->cycle.seen & 2) != 0 && pw->parts.vac_dc >= v ? 2 : 0;
 }
 
-static inline bool frequency(const struct leaf_pw *pw)
+static inline bool frequency(const struct pw_meter *pw)
 {
     bool watched = pw->comparator.r20 == OF_CURRENT ? has_amperes(pw) : has_volts(pw);
     return way_of(pw) == ALTERNATING || (way_of(pw) == B && pw->comparator.f_ok && watched);
 }
 
 /* The elapsed seconds are none before the start, and only their low 16 bits count. */
-static inline struct leaf_limits limits(const struct leaf_pw *pw)
+static inline struct pw_limits limits(const struct pw_meter *pw)
 {
-    struct leaf_parts p = pw->parts;
+    struct pw_parts p = pw->parts;
     uint64_t begun = pw->over_t0.at, now = pw->clock.t_poll, limit = pw->settings.t_lim;
     uint64_t elapsed = now < begun ? 0 : (now - begun) / 1000 % 65536;
-    struct leaf_limits l = {.over = 0, .over_left = 0};
+    struct pw_limits l = {.over = 0, .over_left = 0};
     l.v_ol = leaf_hypot(p.v_ac, p.v_dc) > pw->description.over * v_limit(pw);
     l.i_ol = leaf_hypot(p.i_ac, p.i_dc) > pw->description.over * i_limit(pw);
     if (pw->over_t0.set && limit > 0) {
@@ -153,14 +153,14 @@ static inline struct leaf_limits limits(const struct leaf_pw *pw)
     return l;
 }
 
-static inline struct leaf_vals expected_vals(const struct leaf_pw *pw)
+static inline struct pw_vals expected_vals(const struct pw_meter *pw)
 {
-    struct leaf_vals e = {false, no_values()};
+    struct pw_vals e = {false, no_values()};
     uint8_t need = way_of(pw) == ALTERNATING ? 6 : 7;
     bool ac = pw->mode.coup == AC && !pw->mode.dc;
     if (!pw->mode.on || (pw->cycle.seen & need) != need)
         return e;
-    e = (struct leaf_vals){true, unmeasured(pw)};
+    e = (struct pw_vals){true, unmeasured(pw)};
     e.vals.load = load(pw);
     e.vals.vdc = ac || way_of(pw) == ALTERNATING ? NAN : pw->parts.v_dc;
     e.vals.idc = ac ? NAN : pw->parts.i_dc;
@@ -175,20 +175,20 @@ static inline struct leaf_vals expected_vals(const struct leaf_pw *pw)
 }
 
 /* A job has its text, whether there are values or not; volts are not shown in a job. */
-static inline struct leaf_partial expected_partial(const struct leaf_pw *pw)
+static inline struct pw_partial expected_partial(const struct pw_meter *pw)
 {
-    struct leaf_partial e = {.text = 0};
+    struct pw_partial e = {.text = 0};
     uint8_t vr = pw->ranges.vr > 3 ? 3 : pw->ranges.vr;
     if (!pw->mode.on)
         return e;
     e.text = pw->job.job == 1 ? 1 : pw->job.job == 2 ? 2 : expected_vals(pw).measured ? 0 : 3;
     e.with_volts = e.text != 0 && pw->job.job == 0 && (pw->cycle.seen & 2) != 0;
     if (e.with_volts)
-        e.volts = (struct leaf_val){leaf_hypot(pw->parts.v_ac, pw->parts.v_dc), (uint8_t)(4 - vr), 0, false};
+        e.volts = (struct pw_val){leaf_hypot(pw->parts.v_ac, pw->parts.v_dc), (uint8_t)(4 - vr), 0, false};
     return e;
 }
 
-static inline bool expected_integrating(const struct leaf_pw *pw)
+static inline bool expected_integrating(const struct pw_meter *pw)
 {
     return pw->mode.on && pw->clock.run && (pw->cycle.seen & 4) != 0
            && leaf_hypot(pw->parts.i_ac, pw->parts.i_dc) > 50e-6f;

@@ -55,19 +55,19 @@ bool put_value_cases(uint64_t least)
 /* ---- which cases a dump is, by the dump ---- */
 
 /* The floors of method B, 0.5 % of the limit of the range. */
-static bool v_is_ok(const struct leaf_pw *pw)
+static bool v_is_ok(const struct pw_meter *pw)
 {
     return pw->parts.v_ac >= 0.005f * leaf_v_lim(pw->ranges.vr);
 }
 
-static bool i_is_ok(const struct leaf_pw *pw)
+static bool i_is_ok(const struct pw_meter *pw)
 {
     return pw->parts.i_ac >= 0.005f * leaf_i_lim(pw->ranges.ik);
 }
 
 static void count_measured(const struct call *c)
 {
-    const struct leaf_pw *pw = &c->after;
+    const struct pw_meter *pw = &c->after;
     bool yes = c->vals.measured, no = !yes && pw->mode.on, ac = pw->mode.coup == AC;
     bool dc = pw->mode.dc, alt = pw->mode.alt && !dc, b = !pw->mode.alt && !dc, job = pw->job.job != 0;
     count(B_ACDC, yes && b && !ac);
@@ -91,8 +91,8 @@ static void count_measured(const struct call *c)
 
 static void count_limits(const struct call *c)
 {
-    const struct leaf_pw *pw = &c->after;
-    const struct leaf_limits *l = &c->vals.vals.limits;
+    const struct pw_meter *pw = &c->after;
+    const struct pw_limits *l = &c->vals.vals.limits;
     uint64_t now = pw->clock.t_poll, begun = pw->over_t0.at;
     bool above = pw->over_t0.set && pw->settings.t_lim > 0;
     uint64_t seconds = above && now > begun ? (now - begun) / 1000 : 0;
@@ -110,9 +110,9 @@ static void count_limits(const struct call *c)
  * (test_values has it). A current that the comparator is on falls below its floor by the range of a job. */
 static void count_b(const struct call *c)
 {
-    const struct leaf_pw *pw = &c->after;
-    const struct leaf_power_vals *v = &c->vals.vals;
-    const struct leaf_comparator *f = &pw->comparator;
+    const struct pw_meter *pw = &c->after;
+    const struct pw_power_vals *v = &c->vals.vals;
+    const struct pw_comparator *f = &pw->comparator;
     bool v_ok = v_is_ok(pw), i_ok = i_is_ok(pw), ac = pw->mode.coup == AC, of_i = f->r20 == OF_CURRENT;
     bool burden = pw->settings.comp && v->burden_v != 0.0f;
     count(F_OF_V, v->f_ok && !of_i && !i_ok);
@@ -121,7 +121,7 @@ static void count_b(const struct call *c)
     count(NO_F_COMPARATOR, !f->f_ok && v_ok && i_ok);
     count(NO_PHASE_V, ac && !v_ok && i_ok);
     count(NO_PHASE_I, ac && v_ok && !i_ok);
-    struct leaf_parts p = pw->parts;
+    struct pw_parts p = pw->parts;
     float va = v_ok ? p.v_ac : 0.0f, ia = i_ok ? p.i_ac : 0.0f, pa = v_ok && i_ok ? p.p_ac : 0.0f;
     float r = pw->settings.comp ? pw->settings.r_path[leaf_iu_ir(pw->ranges.ik).iu] : 0.0f;
     float q = leaf_totals(pa, va, ac ? 0.0f : p.v_dc, ia, ac ? 0.0f : p.i_dc, r).q;
@@ -135,8 +135,8 @@ static void count_b(const struct call *c)
 
 static void count_values(const struct call *c)
 {
-    const struct leaf_power_vals *v = &c->vals.vals;
-    const struct leaf_pw *pw = &c->after;
+    const struct pw_power_vals *v = &c->vals.vals;
+    const struct pw_meter *pw = &c->after;
     bool burden = v->burden_v != 0.0f;
     count(BURDEN_OFF, burden && !pw->settings.comp);
     count(BURDEN_ON, burden && pw->settings.comp);
@@ -157,7 +157,7 @@ static void count_unit(enum met which, const struct shown *s, uint8_t unit)
 
 static void count_shown(const struct call *c)
 {
-    const struct leaf_power_vals *v = &c->state;
+    const struct pw_power_vals *v = &c->state;
     const struct shown *s = &c->shown;
     uint8_t main = v->in_force.main, vr = v->ranges.vr;
     bool ol = v->limits.v_ol || v->limits.i_ol, energy = main == 1 || main == 2;
@@ -180,7 +180,7 @@ static void count_shown(const struct call *c)
     count(BT_HELD, fabsf(s->bt.number) == 65534.0f);
     count(BT_MILLI, s->bt.unit == PW_UNIT_MV && s->bt.number != 0.0f);
     count(BT_KILO, kilo && s->bt.number != 0.0f);
-    const struct leaf_partial *p = &s->partial;
+    const struct pw_partial *p = &s->partial;
     count(PARTIAL_NONE, p->text == 0 && c->after.mode.on);
     count(PARTIAL_ZERO, p->text == 1);
     count(PARTIAL_GAIN, p->text == 2);
@@ -193,17 +193,17 @@ static void count_shown(const struct call *c)
 size_t check_values(const struct call *c, const char *what, size_t most)
 {
     char of[100];
-    struct leaf_vals vals = leaf_pw_vals(c->after);
-    struct leaf_power_vals state = leaf_pw_state(c->after), none = no_values();
+    struct pw_vals vals = pw_vals(c->after);
+    struct pw_power_vals state = pw_state(c->after), none = no_values();
     struct shown shown = {
-        leaf_reading_vals(c->state), leaf_energy_val(c->state), leaf_bt_main(c->state), leaf_pw_partial(c->after),
-        leaf_integrating(c->after), leaf_bt_mode_byte(c->after.ranges.v_auto, c->after.ranges.vr),
+        pw_reading_vals(c->state), pw_energy_val(c->state), pw_bt_main(c->state), pw_partial(c->after),
+        pw_integrating(c->after), pw_bt_mode_byte(c->after.ranges.v_auto, c->after.ranges.vr),
     };
     size_t differ = vals.measured == c->vals.measured ? 0 : 1;
     if (differ > 0 && most > 0)
         printf("%s: measured is to be %d, is %d\n", what, c->vals.measured, vals.measured);
     snprintf(of, sizeof of, "%s, values", what);
-    const struct leaf_power_vals *values = c->vals.measured ? &c->vals.vals : &none;
+    const struct pw_power_vals *values = c->vals.measured ? &c->vals.vals : &none;
     differ += differences_in(value_fields, VALUE_FIELDS, values, &vals.vals, of, most);
     snprintf(of, sizeof of, "%s, state", what);
     differ += differences_in(value_fields, VALUE_FIELDS, &c->state, &state, of, most);

@@ -1,4 +1,4 @@
-/* values.h: what leaf_pw_vals, leaf_pw_state and the functions that show their values make of the meter
+/* values.h: what pw_vals, pw_state and the functions that show their values make of the meter
  * after each call of a transcript (transcript.h), beside what the published Rust read off it. */
 #ifndef VALUES_H
 #define VALUES_H

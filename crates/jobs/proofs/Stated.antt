@@ -1,4 +1,4 @@
--- What follows from the definitions: what a job's start, a frame in a job and a job's end leave as it was; that the frame that ends a job gives back the ranges and marks noted at its start; that zeros and gains change only where a job ends well; and how many ready frames a step uses.
+-- What follows from the definitions: what a job's start, a frame in a job and a job's end leave as it was; that the frame that ends a job gives back the ranges and marks noted at its start; that zeros and gains change only where a job ends well; how many ready frames a step uses; and what a mark holds.
 use mathlib.Core.Path.{_≡_, refl, sym, ap, subst, _∙_}
 use mathlib.Core.Bool.{Bool, true, false, cond}
 use mathlib.Core.Logic.{_⊎_, inl, inr}
@@ -18,16 +18,18 @@ use Rattle.tables.specs.declared.calibration.Calibration.{Calibration}
 use Rattle.state.specs.declared.Pw.{Pw}
 use Rattle.state.specs.Fresh.{noTime}
 use Rattle.state.specs.Counting.{countUp}
+use Rattle.state.proofs.Marks.{MarkAt, Settle, of-apply, of-ac, of-dc}
 use Rattle.phase.specs.Phase.{calOff}
 use Rattle.steps.specs.declared.place.Kind.{Kind}
 use Rattle.steps.specs.declared.place.Kind.the-variants.{Zero, Gain}
 use Rattle.steps.specs.declared.place.Place.{Place}
+use Rattle.steps.specs.declared.place.Place.the-variants.{ZeroX, ZeroD, ZeroY, Raw, RefDc, RefAc}
 use Rattle.steps.specs.declared.reading.Reading.{Reading}
 use Rattle.steps.specs.declared.verdict.RawVerdict.{RawVerdict}
 use Rattle.steps.specs.declared.verdict.RawVerdict.the-variants.{Small, Big, Fair}
 use Rattle.steps.specs.declared.verdict.GainVerdict.{GainVerdict}
 use Rattle.steps.specs.declared.verdict.GainVerdict.the-variants.{Unstable, Outside, Good}
-use Rattle.steps.specs.Place.{dropsOf, ready}
+use Rattle.steps.specs.Place.{dropsOf, ready, settleOf}
 use Rattle.steps.specs.Reading.{zerosIn, oldOf, readingOf, signal}
 use Rattle.steps.specs.Verdict.{zeroMean, isDc, rawVerdict, meanOf}
 use Rattle.jobs.specs.declared.bench.Bench.{Bench}
@@ -298,3 +300,56 @@ module _ (c : Calibration) where
         let three = f0 ∷ f1 ∷ f2 ∷ [] in
         both fs three start ∙ ap (λ (x : Bench). pollAll three (pollAll fs x)) (dropping ∙ ap (λ (k : ℕ). toDrop k (usedAs (b .job .used) start)) (sym n))
         ∙ ap (pollAll three) (drops-all fs (b .job .used) start r) ∙ three-count (length fs) f0 f1 f2 e g0 g1 g2
+
+-- ---- a mark has the deadline of the frame's time
+
+pub settle-of : (p : Place) → Settle (settleOf p)
+settle-of ZeroX = of-apply
+settle-of ZeroD = of-apply
+settle-of ZeroY = of-apply
+settle-of Raw = of-apply
+settle-of RefDc = of-dc
+settle-of RefAc = of-ac
+
+module _ (now : ℕ) where
+  abbrev Marks : Served → Type 0
+  Marks s = MarkAt now (s .mark)
+
+  next-mark : (b : Bench) → Marks (next now b)
+  unfolding next stepAt
+  next-mark b = let p = placeIn (atStep (countUp (b .job .«job_step»)) (b .job)) in inr (settleOf p, settle-of p, refl)
+
+  raw-mark : (v : RawVerdict) (b : Bench) → Marks (byRaw now v b)
+  raw-mark Small b = inl refl
+  raw-mark Big b = inl refl
+  raw-mark Fair b = next-mark b
+
+  gain-mark : (v : GainVerdict) (b : Bench) → Marks (byGain v b)
+  gain-mark Unstable b = inl refl
+  gain-mark Outside b = inl refl
+  gain-mark (Good x) b = inl refl
+
+  step-mark : (k : Kind) (x y : Float) (b : Bench) → Marks (stepDone now k x y b)
+  unfolding zeroDone gainDone rawDone refDone judged
+  step-mark Zero x y b =
+      let z = zeroMean x in
+      either Marks (ltb (b .job .«job_step») 6) (next-mark (zxNoted z b)) (either Marks (ltb (b .job .«job_step») 12) (next-mark (zdNoted z b)) (inl refl))
+  step-mark Gain x y b =
+      let dc = cond (eqb (b .job .«job_step») 0) (isDc x y) (b .job .«job_dc») in
+      either Marks (eqb (b .job .«job_step» % 2) 0) (raw-mark (rawVerdict dc (b .ranges .vr) x y) (rawNoted dc x y b))
+      (either Marks (ltb (b .job .«job_step») 3) (next-mark (refNoted x b)) (gain-mark (verdictIn (refNoted x b)) (refNoted x b)))
+
+  served-mark : (sig : Bool) (r : Reading) (b : Bench) → Marks (servedBy now sig r b)
+  unfolding servedBy counted
+  served-mark sig r b =
+      let s = summed r b in
+      either Marks (ltb 0 (b .cycle .skip)) (inl refl)
+      (either Marks sig (inl refl) (either Marks (ltb (s .job .«job_n») jobN) (inl refl) (step-mark (kindIn (s .job)) (meanOf (s .job .«job_a»)) (meanOf (s .job .«job_b»)) s)))
+
+  pub frame-mark : (m : Pw) (flags : ℕ) (f : Codes) → MarkAt now (jobPolled m now flags f .mark)
+  unfolding jobPolled jobFrame served
+  frame-mark m flags f =
+      let t = oneUsed (benchIn m) in
+      either Marks (ready (placeIn (benchIn m .job)) flags)
+      (served-mark (signal (placeIn (t .job)) (oldOf (zerosIn (t .corrections)) (t .job .«job_step»)) f) (readingOf (placeIn (t .job)) (m .calibration) (t .ranges .vr) (zerosIn (t .corrections)) f) t)
+      (inl refl)

@@ -18,24 +18,10 @@ use Rattle.ranging.specs.declared.apply.Keep.the-variants.{Nothing, Voltage, Cu
 use Rattle.ranging.specs.declared.apply.Applied.{Applied}
 use Rattle.paths.specs.declared.measuring.Outcome.{Outcome}
 use Rattle.paths.specs.Whole.{withMeasuring}
-use Rattle.numbers.specs.Binary32.{zeroF}
-use Rattle.formats.specs.declared.readout.Val.{Val}
-use Rattle.formats.specs.Units.{unitNumber}
-use Rattle.values.specs.declared.vals.Vals.{Vals}
-use Rattle.values.specs.declared.vals.Vals.the-variants.{NoValues, Measured}
-use Rattle.values.specs.PowerVals.{zeroVals}
-use Rattle.readouts.specs.declared.readings.Readouts.{Readouts}
-use Rattle.readouts.specs.declared.partial.Partial.{Partial}
-use Rattle.readouts.specs.declared.partial.Partial.the-variants as partial
-use Rattle.readouts.specs.Partial.{partialText}
 use Rattle.phase.specs.declared.CalOutcome.{CalOutcome}
 use Rattle.phase.specs.Phase.{calNumber, calSteps}
 use Rattle.leaves.specs.declared.jobbed.HostOutcome.{HostOutcome}
 use Rattle.leaves.specs.declared.measured.MeasuredPw.{MeasuredPw}
-use Rattle.leaves.specs.declared.valued.HostPartial.{HostPartial}
-use Rattle.leaves.specs.declared.valued.HostReadouts.{HostReadouts}
-use Rattle.leaves.specs.declared.valued.HostVal.{HostVal}
-use Rattle.leaves.specs.declared.valued.HostVals.{HostVals}
 use Rattle.leaves.specs.declared.figured.NumberedSum.{NumberedSum}
 use Rattle.leaves.specs.declared.figured.NumberedTally.{NumberedTally}
 use Rattle.leaves.specs.declared.tabled.IuIrPair.{IuIrPair}
@@ -92,27 +78,3 @@ appliedPw m a =
 -- the outcome by its number, with its steps; 0 steps stand where there are none
 unfoldable pub hostOutcome : CalOutcome → HostOutcome
 hostOutcome o = record { number = calNumber o; steps = calSteps o (pos 0) }
-
--- values, or the source's ZERO where there are none: a mark tells which
-unfoldable pub hostVals : Vals → HostVals
-hostVals (Measured v) = record { measured = true; vals = v }
-hostVals NoValues = record { measured = false; vals = zeroVals }
-
--- the unit by its number
-unfoldable pub hostVal : Val → HostVal
-hostVal v = record { number = v .number; decimals = v .decimals; unit = unitNumber (v .unit); over = v .over }
-
-unfoldable pub hostReadouts : Readouts → HostReadouts
-hostReadouts r = record { main = hostVal (r .main); v = hostVal (r .v); i = hostVal (r .i); si = r .si }
-
--- what stands for the volts where there are none
-unfoldable pub textOnly : ℕ → HostPartial
-textOnly text = record { text = text; «with_volts» = false; volts = record { number = zeroF; decimals = 0; unit = 0; over = false } }
-
--- the text by its number, and the volts where there are any
-unfoldable pub hostPartial : Partial → HostPartial
-hostPartial (partial.RangingAt v) = record { text = partialText (partial.RangingAt v); «with_volts» = true; volts = hostVal v }
-hostPartial partial.Nothing = textOnly (partialText partial.Nothing)
-hostPartial partial.Zeroing = textOnly (partialText partial.Zeroing)
-hostPartial partial.Calibrating = textOnly (partialText partial.Calibrating)
-hostPartial partial.Ranging = textOnly (partialText partial.Ranging)

@@ -12,6 +12,7 @@ ghost use Rattle.codes.specs.Flags.{holdsAd1, holdsRmsLpf};
 pub mod figured;
 pub mod jobbed;
 pub mod measured;
+pub mod numbered;
 pub mod tabled;
 pub mod valued;
 

@@ -1,6 +1,7 @@
--- What follows from the definitions: the ring notes every RMS and LPF result, dropped or turned down too, and every AD1 result that is taken; a result turned down changes nothing else, a V range that changes ends the DC path, a frame leaves the automatic marks, ranges within the tables stay so, and of the phase calibration only the sum and its count change.
+-- What follows from the definitions: the ring notes every RMS and LPF result, dropped or turned down too, and every AD1 result that is taken; a result turned down changes nothing else, a V range that changes ends the DC path, a frame leaves the automatic marks, ranges within the tables stay so, of the phase calibration only the sum and its count change, and a mark has its frame's deadline.
 use mathlib.Core.Path.{_≡_, refl, sym, subst, _∙_}
-use mathlib.Core.Bool.{Bool, true, false}
+use mathlib.Core.Bool.{Bool, true, false, cond}
+use mathlib.Core.Logic.{inl, inr}
 use mathlib.Core.List.{List}
 use Prim.Native.Nat.{ℕ, _-_, _%_}
 use native.Mathlib.Omega.{arith}
@@ -10,7 +11,7 @@ use lib.ListN.{length, getD, set}
 use lib.Seq.{getD-set-same, getD-set-other}
 use Rattle.codes.specs.declared.Codes.{Codes}
 use Rattle.codes.specs.Flags.{holdsAd1, holdsRmsLpf}
-use Rattle.tables.specs.Constants.{r34Xy, r34Yy, altN}
+use Rattle.tables.specs.Constants.{r34Xy, r34Yy, settleMs, altVSettleMs, altN}
 use Rattle.tables.specs.declared.description.Description.{Description}
 use Rattle.state.specs.declared.Mode.{Mode}
 use Rattle.state.specs.declared.Parts.{Parts}
@@ -19,6 +20,7 @@ use Rattle.state.specs.declared.Pw.{Pw}
 use Rattle.state.specs.declared.Ring.{Ring}
 use Rattle.state.specs.declared.Ranges.{Ranges}
 use Rattle.state.specs.Counting.{countUp}
+use Rattle.state.proofs.Marks.{MarkAt, Settle, of-apply, of-voltage}
 use Rattle.takes.specs.declared.scales.Instrument.{Instrument}
 use Rattle.takes.specs.declared.take.Taken.{Taken}
 use Rattle.takes.specs.Take.{PhaseKept}
@@ -26,8 +28,9 @@ use Rattle.numbers.proofs.Cases.{either}
 use Rattle.takes.proofs.Stated.{take-keeps-phase, alt-keeps-phase, dc-keeps-phase}
 use Rattle.ranging.specs.declared.autorange.Ranging.{Ranging}
 use Rattle.ranging.specs.Bounds.{InBounds}
+use Rattle.ranging.specs.Cycle.{otherPhase, altSwitch}
 use Rattle.ranging.specs.Autorange.{autorangeV, autorangeI}
-use Rattle.ranging.proofs.Stated.{v-leaves, i-leaves, v-bounds, i-bounds}
+use Rattle.ranging.proofs.Stated.{v-leaves, i-leaves, v-bounds, i-bounds, v-mark, i-mark}
 use Rattle.paths.specs.declared.measuring.Measuring.{Measuring}
 use Rattle.paths.specs.declared.measuring.Outcome.{Outcome}
 use Rattle.paths.specs.declared.ring.Raw.{Raw}
@@ -261,3 +264,43 @@ module _ (r : Ring) (raw : Raw) where
   pub entries-stay : (j : ℕ) → (j ≡ r .«ring_k» % 16 → ⊥) → entry (noted r raw) j ≡ entry r j
   unfolding noted
   entries-stay j other = simp (getD-set-other, other)
+
+-- ---- a mark has the deadline of the frame's time
+module _ (w : Instrument) (mode : Mode) (codes : Codes) (now : ℕ) where
+  abbrev Marks : Outcome → Type 0
+  Marks o = MarkAt now (o .mark)
+
+  ranged-mark : (v : Bool) (m : Measuring) → Marks (rangedTo m (autorange w mode v now m))
+  unfolding autorange rangedTo
+  ranged-mark true m = v-mark (w .description) mode (m .parts) (rangingIn m) now
+  ranged-mark false m = i-mark (w .description) mode (m .parts) (rangingIn m) now
+
+  switch-mark : (m : Measuring) → Marks (switched now m)
+  unfolding switched altSwitch
+  switch-mark m =
+      let v = eqb (otherPhase (m .cycle .phase) % 2) 0 in
+      inr (cond v altVSettleMs settleMs, either Settle v of-voltage of-apply, refl)
+
+  method-mark : (m : Measuring) → Marks (methodFrame w mode codes now m)
+  unfolding bUnranged ends goesOn
+  method-mark m =
+      let n = taken w mode codes now m in
+      method-cases w mode codes now m Marks (inl refl) (inl refl)
+      (alt-cases w mode codes now n Marks (inl refl) (ranged-mark (eqb (n .cycle .phase % 2) 0) (counted w mode codes now n)) (switch-mark (counted w mode codes now n)))
+      (b-cases w mode codes now n Marks (inl refl) (ranged-mark (eqb (n .cycle .stat) r34Yy) n) (inl refl))
+
+  dc-v-mark : (m : Measuring) → Marks (dcVPart w mode codes now m)
+  unfolding ends
+  dc-v-mark m = dc-v-cases w mode codes now m Marks (inl refl) (ranged-mark true (dcVAfter w codes (dcVInRing w mode codes now m))) (inl refl)
+
+  dc-i-mark : (flags : ℕ) (m : Measuring) → Marks (dcIPart w mode flags codes now m)
+  unfolding dcIPart ends goesOn
+  dc-i-mark flags m =
+      either Marks (holdsAd1 flags) (either Marks (ltb 0 (m .cycle .skip)) (inl refl) (dc-i-cases w mode codes now m Marks (ranged-mark false (dcIAfter w codes m)) (inl refl))) (inl refl)
+
+  pub frame-mark : (flags : ℕ) (m : Measuring) → Marks (frame w mode flags codes now m)
+  unfolding frame dcFrame ends
+  frame-mark flags m =
+      let v = dcVPart w mode codes now m in
+      either Marks (mode .dc) (either Marks (holdsRmsLpf flags) (either Marks (v .mark .set) (dc-v-mark m) (dc-i-mark flags (v .measuring))) (dc-i-mark flags m))
+      (either Marks (holdsRmsLpf flags) (method-mark m) (inl refl))

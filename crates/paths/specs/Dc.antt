@@ -51,3 +51,7 @@ dcAfterV w mode flags codes now v = cond (v .mark .set) v (dcIPart w mode flags 
 unfoldable pub dcFrame : Instrument → Mode → ℕ → Codes → ℕ → Measuring → Outcome
 dcFrame w mode flags codes now m =
     cond (holdsRmsLpf flags) (dcAfterV w mode flags codes now (dcVPart w mode codes now m)) (dcIPart w mode flags codes now m)
+
+-- `dcFrame` is `dcAfterV` of this: what the frame comes to before its AD1
+unfoldable pub dcVFirst : Instrument → Mode → ℕ → Codes → ℕ → Measuring → Outcome
+dcVFirst w mode flags codes now m = cond (holdsRmsLpf flags) (dcVPart w mode codes now m) (ends m)

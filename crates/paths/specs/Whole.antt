@@ -18,7 +18,7 @@ measuringIn m =
       ring = m .ring;
     }
 
--- all else stays: description and words, mode, powers, tally, clock, `over_t0`, settings, corrections and job. `t_poll` is set by the frame call (module 7), before this
+-- all else stays: description and words, mode, powers, tally, clock, `over_t0`, settings, corrections and job. `t_poll` is set by the frame call, after this (meter/specs/Frame.antt)
 unfoldable pub withMeasuring : Pw → Measuring → Pw
 withMeasuring m x =
     record {

@@ -1,7 +1,7 @@
 // A frame in DC coupling (the source's `pw_poll_dc`): the voltage of RMS and LPF, then the current of
 // AD1. Document 01 takes AD1 from the same frame.
 ghost use mathlib.Core.Path.{_≡_};
-ghost use Rattle.paths.specs.Dc.{dcVResult, dcVPart, dcIResult, dcIPart, dcFrame};
+ghost use Rattle.paths.specs.Dc.{dcVResult, dcVPart, dcIResult, dcIPart, dcVFirst, dcFrame};
 use crate::measuring::Measuring;
 use crate::measuring::Outcome;
 use crate::measuring::autorange;
@@ -89,6 +89,23 @@ fn dc_i_part(
     ends(before)
 }
 
+// The voltage's part where RMS and LPF are ready, else nothing.
+fn dc_v_first(
+    with: Instrument,
+    mode: Mode,
+    flags: u8,
+    codes: Codes,
+    now: u64,
+    before: Measuring,
+) -> Outcome
+    ensures { λ r. ⌜ r ≡ dcVFirst with mode flags codes now before ⌝ }
+{
+    if holds_rms_lpf(flags) {
+        return dc_v_part(with, mode, codes, now, before);
+    }
+    ends(before)
+}
+
 // The voltage where RMS and LPF are ready, and then, unless the V range changed, the current.
 pub(crate) fn dc_frame(
     with: Instrument,
@@ -100,12 +117,9 @@ pub(crate) fn dc_frame(
 ) -> Outcome
     ensures { λ r. ⌜ r ≡ dcFrame with mode flags codes now before ⌝ }
 {
-    if holds_rms_lpf(flags) {
-        let v = dc_v_part(with, mode, codes, now, before);
-        if v.mark.set {
-            return v;
-        }
-        return dc_i_part(with, mode, flags, codes, now, v.measuring);
+    let v = dc_v_first(with, mode, flags, codes, now, before);
+    if v.mark.set {
+        return v;
     }
-    dc_i_part(with, mode, flags, codes, now, before)
+    dc_i_part(with, mode, flags, codes, now, v.measuring)
 }

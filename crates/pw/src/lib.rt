@@ -8,6 +8,10 @@ ghost use Rattle.figures.specs.Exact.{ExactAfter};
 ghost use Rattle.figures.specs.Acc.{freshAcc, addTo, addedNumber, addedAcc, wattHours};
 ghost use Rattle.formats.specs.Formats.{energyFormat, pFormat};
 ghost use Rattle.pw.specs.Host.{frameCodes, hostWindow, hostFormat};
+
+pub mod calls;
+pub mod shown;
+
 use codes::Decoded;
 use figures::acc::Acc;
 use formats::format::Format;

@@ -1,6 +1,7 @@
--- What follows from the definitions: which quantities an apply leaves marked, what an autorange leaves as it was, that ranges stay within the tables, and that `stat` goes with the phase.
+-- What follows from the definitions: which quantities an apply leaves marked, what an autorange leaves as it was, that ranges stay within the tables, that `stat` goes with the phase, and what a mark holds.
 use mathlib.Core.Bool.{Bool, true, false, cond, _&&_, true≢false}
 use mathlib.Core.Path.{_≡_, refl}
+use mathlib.Core.Logic.{inl, inr}
 use Prim.Native.Nat.{ℕ, _+_, _-_, _/_, _%_, _≤_}
 use native.Mathlib.Omega.{arith}
 use borrow.Author.Tests.{ltb-true}
@@ -9,7 +10,7 @@ use lib.Ieee.{Float, nan, lt}
 use Rattle.numbers.specs.Binary32.{_*f_, _/f_}
 use Rattle.numbers.specs.Root.{hypotOf}
 use Rattle.tables.specs.Bounds.{atMost, entryAt}
-use Rattle.tables.specs.Constants.{vLim, iLim, cycleAt}
+use Rattle.tables.specs.Constants.{vLim, iLim, cycleAt, settleMs}
 use Rattle.tables.specs.Ranges.{iuIr}
 use Rattle.tables.proofs.Held.{at-most, iu-most}
 use Rattle.tables.specs.declared.calibration.Calibration.{Calibration}
@@ -22,6 +23,7 @@ use Rattle.state.specs.declared.Parts.{Parts}
 use Rattle.state.specs.declared.Ranges.{Ranges}
 use Rattle.state.specs.Fresh.{newPw}
 use Rattle.state.specs.Seen.{bitOf, hasSeen}
+use Rattle.state.proofs.Marks.{MarkAt, of-apply}
 use Rattle.ranging.specs.declared.apply.Keep.{Keep}
 use Rattle.ranging.specs.declared.apply.Keep.the-variants.{Nothing, Voltage, Current}
 use Rattle.ranging.specs.declared.autorange.Ranging.{Ranging}
@@ -222,3 +224,22 @@ module _ (d : Description) (mode : Mode) (p : Parts) (g : Ranging) (now : ℕ) w
 pub apply-keeps-nothing : (mode : Mode) (vr : ℕ) (c : Cycle) (k : Comparator) (now : ℕ) → apply Nothing mode vr c k now .cycle .seen ≡ 0
 unfolding apply keptSeen
 apply-keeps-nothing mode vr c k now = refl
+
+-- ---- a mark has the deadline of the call's time
+module _ (d : Description) (mode : Mode) (p : Parts) (g : Ranging) (now : ℕ) where
+  pub v-mark : MarkAt now (autorangeV d mode p g now .mark)
+  unfolding autorangeV stays changedV apply
+  v-mark = go (vChange d (g .ranges) p)
+    where
+      go : (asked : Change) → MarkAt now (byChangeV mode g now asked .mark)
+      go Stays = inl refl
+      go (To vr) = inr (settleMs, of-apply, refl)
+
+  pub i-mark : MarkAt now (autorangeI d mode p g now .mark)
+  unfolding autorangeI stays changedI apply
+  i-mark = go (trips d (g .ranges) p) (iChange d (g .ranges) (g .barred) p)
+    where
+      go : (trip : Bool) (asked : Change) → MarkAt now (cond trip (changedI mode g (barredAfter (g .barred) (g .ranges .ik)) 5 now) (byChangeI mode g now asked) .mark)
+      go true asked = inr (settleMs, of-apply, refl)
+      go false Stays = inl refl
+      go false (To ik) = inr (settleMs, of-apply, refl)

@@ -1,2 +1,3 @@
 pub mod Bits
 pub mod Stated
+pub mod Marks

@@ -45,6 +45,16 @@ limits m =
       «over_left» = count .«over_left»;
     }
 
+-- the same of its parts: `over` is the description's, and the countdown is given
+unfoldable pub limitsOf : Float → Ranges → Parts → Countdown → Limits
+limitsOf over r p count =
+    record {
+      «v_ol» = lt (over *f entryAt nan vLim (r .vr)) (hypotOf (p .«v_ac») (p .«v_dc»));
+      «i_ol» = lt (over *f entryAt nan iLim (r .ik)) (hypotOf (p .«i_ac») (p .«i_dc»));
+      over = count .over;
+      «over_left» = count .«over_left»;
+    }
+
 -- a DC part reaches the floor: `v_dc.abs() >= fv || i_dc.abs() >= fi`
 unfoldable pub dcSignal : Ranges → Parts → Bool
 dcSignal r p = le (floorOfV (r .vr)) (absOf (p .«v_dc»)) || le (floorOfI (r .ik)) (absOf (p .«i_dc»))

@@ -1,7 +1,7 @@
 // The marks of a reading: what is over its range or its limit, whether there is a frequency, and the
 // hint that another coupling would do better.
 ghost use mathlib.Core.Path.{_≡_};
-ghost use Rattle.values.specs.Marks.{overElapsed, secondsLeft, overLimit, limits, dcSignal, dcIsBetter, acIsMissed, hint, frequency};
+ghost use Rattle.values.specs.Marks.{overElapsed, secondsLeft, overLimit, limitsOf, dcSignal, dcIsBetter, acIsMissed, hint, frequency};
 use crate::floors::Reached;
 use crate::floors::floor_of_i;
 use crate::floors::floor_of_v;
@@ -11,7 +11,6 @@ use crate::power_vals::Limits;
 use state::Comparator;
 use state::Mode;
 use state::Parts;
-use state::Pw;
 use state::Quantity;
 use state::Ranges;
 use state::Stamp;
@@ -53,7 +52,7 @@ fn seconds_left(t_lim: u16, el: u64) -> Countdown
 }
 
 // The countdown of t_lim seconds since the stamp t0: none where no stamp is set, or t_lim is 0.
-fn over_limit(t0: Stamp, t_lim: u16, t_poll: u64) -> Countdown
+pub(crate) fn over_limit(t0: Stamp, t_lim: u16, t_poll: u64) -> Countdown
     ensures { λ r. ⌜ r ≡ overLimit t0 «t_lim» «t_poll» ⌝ }
 {
     if t0.set {
@@ -67,16 +66,14 @@ fn over_limit(t0: Stamp, t_lim: u16, t_poll: u64) -> Countdown
     }
 }
 
-pub(crate) fn limits(pw: Pw) -> Limits
-    ensures { λ r. ⌜ r ≡ limits pw ⌝ }
+// What is over its range, `over` times of it at the most, beside the countdown.
+pub(crate) fn limits_of(over: f32, ranges: Ranges, parts: Parts, count: Countdown) -> Limits
+    ensures { λ r. ⌜ r ≡ limitsOf over ranges parts count ⌝ }
 {
-    let parts = pw.parts;
-    let ov = pw.description.over;
     let v = numbers::hypot(parts.v_ac, parts.v_dc);
     let i = numbers::hypot(parts.i_ac, parts.i_dc);
-    let v_most = ov * v_lim(pw.ranges.vr);
-    let i_most = ov * i_lim(pw.ranges.ik);
-    let count = over_limit(pw.over_t0, pw.settings.t_lim, pw.clock.t_poll);
+    let v_most = over * v_lim(ranges.vr);
+    let i_most = over * i_lim(ranges.ik);
     Limits {
         v_ol: v > v_most,
         i_ol: i > i_most,

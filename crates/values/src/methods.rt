@@ -9,7 +9,7 @@ use tables::constants::COUP_AC;
 use tables::constants::COUP_ACDC;
 
 // The alternating method, over which DC coupling takes precedence.
-pub(crate) fn alternating(mode: Mode) -> bool
+pub fn alternating(mode: Mode) -> bool
     ensures { λ r. ⌜ r ≡ alternating mode ⌝ }
 {
     if mode.alt { !mode.dc } else { false }
@@ -46,7 +46,7 @@ pub(crate) fn ac_dc(mode: Mode) -> bool
 
 // Whether the meter is on and has measured all that its method needs: voltage and current, and the
 // power too outside the alternating method.
-pub(crate) fn measured(mode: Mode, seen: u8) -> bool
+pub fn measured(mode: Mode, seen: u8) -> bool
     ensures { λ r. ⌜ r ≡ measured mode seen ⌝ }
 {
     if mode.on {

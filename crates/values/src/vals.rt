@@ -1,6 +1,6 @@
 // `pw_vals`, `pw_state` and `integrating` of the source: what a whole meter shows.
 ghost use mathlib.Core.Path.{_≡_};
-ghost use Rattle.values.specs.Vals.{inForce, dcVolts, dcAmperes, values, pwVals, stateOnly, pwState, integrating};
+ghost use Rattle.values.specs.Vals.{inForceOf, dcVolts, dcAmperes, loadOf, valuesOf, basisIn, changingIn, values, pwVals, stateOnly, pwState, integrating};
 use crate::energy::energies;
 use crate::floors::floors_reached;
 use crate::floors::kept_if;
@@ -10,15 +10,25 @@ use crate::load::path_ohms;
 use crate::load::split;
 use crate::marks::frequency;
 use crate::marks::hint;
-use crate::marks::limits;
+use crate::marks::limits_of;
+use crate::marks::over_limit;
 use crate::methods::ac_only;
 use crate::methods::alternating;
 use crate::methods::measured;
 use crate::power_vals::InForce;
 use crate::power_vals::PowerVals;
+use figures::load::Figures;
+use figures::tally::Tally;
+use state::Clock;
+use state::Comparator;
 use state::Mode;
+use state::Parts;
+use state::PhaseCal;
 use state::Pw;
 use state::Quantity;
+use state::Ranges;
+use state::Settings;
+use state::Stamp;
 use state::has_seen;
 use tables::constants::I_FLOOR;
 
@@ -28,19 +38,39 @@ pub enum Vals {
     Measured(PowerVals),
 }
 
-fn in_force(pw: Pw) -> InForce
-    ensures { λ r. ⌜ r ≡ inForce pw ⌝ }
+// What the values are worked out from, but for what a frame's accounting changes: `over` is the
+// description's, `seen` the cycle's.
+pub struct Basis {
+    pub mode: Mode,
+    pub ranges: Ranges,
+    pub parts: Parts,
+    pub seen: u8,
+    pub comparator: Comparator,
+    pub settings: Settings,
+    pub over: f32,
+}
+
+// What a frame's accounting changes: what is counted, the clock, since when the current is above its
+// limit, and the phase steps.
+pub struct Changing {
+    pub tally: Tally,
+    pub clock: Clock,
+    pub over_t0: Stamp,
+    pub phase_cal: PhaseCal,
+}
+
+fn in_force_of(basis: Basis, run: bool, phase_cal: PhaseCal) -> InForce
+    ensures { λ r. ⌜ r ≡ inForceOf basis run «phase_cal» ⌝ }
 {
-    let alt = alternating(pw.mode);
-    let phase_cal = pw.phase_cal;
+    let alt = alternating(basis.mode);
     InForce {
         alt,
-        dc: pw.mode.dc,
-        coup: pw.mode.coup,
-        comp: pw.settings.comp,
-        run: pw.clock.run,
+        dc: basis.mode.dc,
+        coup: basis.mode.coup,
+        comp: basis.settings.comp,
+        run,
         sph: phase_cal.sph,
-        main: pw.settings.main,
+        main: basis.settings.main,
     }
 }
 
@@ -67,26 +97,41 @@ fn dc_amperes(mode: Mode, i_dc: f32) -> f32
     i_dc
 }
 
-// All values, of a meter that has measured what its method needs.
-fn values(pw: Pw) -> PowerVals
-    ensures { λ r. ⌜ r ≡ values pw ⌝ }
+// What the load draws.
+pub fn load_of(basis: Basis) -> Figures
+    ensures { λ r. ⌜ r ≡ loadOf basis ⌝ }
 {
-    let mode = pw.mode;
-    let ranges = pw.ranges;
-    let parts = pw.parts;
+    let mode = basis.mode;
+    let ranges = basis.ranges;
+    let parts = basis.parts;
     let a = floors_reached(ranges, parts);
     let used = used_parts(mode, a, parts);
-    let ohms = path_ohms(pw.settings, ranges.ik);
-    let r = kept_if(pw.settings.comp, ohms);
-    let load = load_figures(mode, a, ranges, used, r);
+    let ohms = path_ohms(basis.settings, ranges.ik);
+    let r = kept_if(basis.settings.comp, ohms);
+    load_figures(mode, a, ranges, used, r)
+}
+
+// All values, where the load draws this.
+pub fn values_of(basis: Basis, load: Figures, changing: Changing) -> PowerVals
+    ensures { λ r. ⌜ r ≡ valuesOf basis load changing ⌝ }
+{
+    let mode = basis.mode;
+    let ranges = basis.ranges;
+    let parts = basis.parts;
+    let settings = basis.settings;
+    let a = floors_reached(ranges, parts);
+    let used = used_parts(mode, a, parts);
+    let ohms = path_ohms(settings, ranges.ik);
+    let r = kept_if(settings.comp, ohms);
     let vdc = dc_volts(mode, parts.v_dc);
     let idc = dc_amperes(mode, parts.i_dc);
-    let f_ok = frequency(mode, pw.comparator, a);
-    let hint = hint(mode, pw.cycle.seen, ranges, parts, a);
+    let f_ok = frequency(mode, basis.comparator, a);
+    let hint = hint(mode, basis.seen, ranges, parts, a);
     let split = split(mode, used, r);
-    let energies = energies(!alternating(mode), pw.tally);
-    let in_force = in_force(pw);
-    let limits = limits(pw);
+    let energies = energies(!alternating(mode), changing.tally);
+    let in_force = in_force_of(basis, changing.clock.run, changing.phase_cal);
+    let count = over_limit(changing.over_t0, settings.t_lim, changing.clock.t_poll);
+    let limits = limits_of(basis.over, ranges, parts, count);
     PowerVals {
         load,
         vdc,
@@ -100,6 +145,49 @@ fn values(pw: Pw) -> PowerVals
         hint,
         split,
     }
+}
+
+fn basis_in(pw: Pw) -> Basis
+    ensures { λ r. ⌜ r ≡ basisIn pw ⌝ }
+{
+    let mode = pw.mode;
+    let ranges = pw.ranges;
+    let parts = pw.parts;
+    let comparator = pw.comparator;
+    let settings = pw.settings;
+    Basis {
+        mode,
+        ranges,
+        parts,
+        seen: pw.cycle.seen,
+        comparator,
+        settings,
+        over: pw.description.over,
+    }
+}
+
+fn changing_in(pw: Pw) -> Changing
+    ensures { λ r. ⌜ r ≡ changingIn pw ⌝ }
+{
+    let tally = pw.tally;
+    let clock = pw.clock;
+    let over_t0 = pw.over_t0;
+    let phase_cal = pw.phase_cal;
+    Changing {
+        tally,
+        clock,
+        over_t0,
+        phase_cal,
+    }
+}
+
+// All values, of a meter that has measured what its method needs.
+fn values(pw: Pw) -> PowerVals
+    ensures { λ r. ⌜ r ≡ values pw ⌝ }
+{
+    let basis = basis_in(pw);
+    let load = load_of(basis);
+    values_of(basis, load, changing_in(pw))
 }
 
 // The values, once voltage and current and what else the method needs are measured, while on.
@@ -119,7 +207,8 @@ fn state_only(pw: Pw) -> PowerVals
 {
     let energies = energies(false, pw.tally);
     let ranges = pw.ranges;
-    let in_force = in_force(pw);
+    let basis = basis_in(pw);
+    let in_force = in_force_of(basis, pw.clock.run, pw.phase_cal);
     let mut vals = PowerVals::zero();
     vals.energies = energies;
     vals.ranges = ranges;

@@ -7,6 +7,7 @@ use figures::acc::Added;
 use figures::tally::Accounted;
 use figures::tally::Tally;
 use formats::format::Format;
+use orders::answer::Step;
 use refusals::Refusal;
 use state::Pw;
 use steps::place::Place;
@@ -499,6 +500,59 @@ fn signal_rows(s: Score) -> Score {
     row(s, 146, is_signal(-20001, 0, 0))
 }
 
+// `pwline`'s meter, on where asked for.
+fn plain(on: bool) -> Pw {
+    let words = Calibration {
+        words: [0; 73],
+        valid: false,
+    };
+    let new = Pw::new(meter::making::plain_description(), words);
+    if on {
+        let step = orders::switches::on(new, 0);
+        return step.pw;
+    }
+    new
+}
+
+// The number that a call answers.
+fn says(step: Step) -> u8 {
+    let answer = step.answer;
+    let refusal = answer.refusal;
+    refusals::number(refusal)
+}
+
+// What a frame of 14 bytes is answered with, and one of 13.
+fn whole_says(on: bool, time: u64) -> u8 {
+    let frame: [u8; 14] = [0; 14];
+    says(meter::frame::poll(plain(on), time, 28, &frame))
+}
+
+fn short_says(on: bool, time: u64) -> u8 {
+    let frame: [u8; 13] = [0; 13];
+    says(meter::frame::poll(plain(on), time, 28, &frame))
+}
+
+// Rows 147 to 150: document 01, time 2^48 - 1 and 2^48, of an order and of a frame. Rows 151 to 153: its
+// order of refusals, 5, 4, 1.
+fn refusal_rows(s: Score) -> Score {
+    let mut s = s;
+    s = row(
+        s,
+        147,
+        says(orders::switches::on(plain(false), 281474976710655)) == 0,
+    );
+    s = row(
+        s,
+        148,
+        says(orders::switches::on(plain(false), 281474976710656)) == 5,
+    );
+    s = row(s, 149, whole_says(true, 281474976710655) == 0);
+    s = row(s, 150, whole_says(true, 281474976710656) == 5);
+    s = row(s, 151, short_says(false, 281474976710656) == 5);
+    s = row(s, 152, short_says(false, 0) == 4);
+    row(s, 153, whole_says(false, 0) == 1)
+}
+
 fn main() {
     let s = rms_rows(code_rows(Score {
         agree: 0,
@@ -509,6 +563,7 @@ fn main() {
     let s = limit_rows(totals_rows(count_rows(s)));
     let s = high_power_rows(low_power_rows(format_rows(s)));
     let s = signal_rows(mean_rows(outcome_rows(s)));
+    let s = refusal_rows(s);
     io::print_decimal(1, s.agree);
     io::write_all(1, b" rows agree, ");
     io::print_decimal(1, s.differ);

@@ -1,46 +1,51 @@
--- By the flags, then by the mark.
+-- The voltage first, or nothing; then by the mark.
+use mathlib.Core.Path.{_≡_, refl, ap, sym, _∙_}
+use mathlib.Core.Bool.{Bool, true, false, cond}
+use Prim.Native.Nat.{ℕ}
+use Rattle.codes.specs.declared.Codes.{Codes}
+use Rattle.codes.specs.Flags.{holdsRmsLpf}
+use Rattle.state.specs.declared.Mode.{Mode}
+use Rattle.takes.specs.declared.scales.Instrument.{Instrument}
 use borrow.Author.Needs.{needs}
-use Rattle.paths.specs.Dc.{dcFrame}
+use Rattle.paths.specs.declared.measuring.Measuring.{Measuring}
+use Rattle.paths.specs.declared.measuring.Outcome.{Outcome}
+use Rattle.paths.specs.Measuring.{ends}
+use Rattle.paths.specs.Dc.{dcVPart, dcIPart, dcAfterV, dcVFirst, dcFrame}
 use Rattle.paths.proofs.dc.dc_frame.Statement.{statement}
 use Rattle.paths.proofs.dc.dc_frame.Tie as tie
 
-holds-rms-lpf-requires : tie.Need-holds-rms-lpf-requires
-holds-rms-lpf-requires c κs = search needs
+by-flags : (w : Instrument) (mode : Mode) (flags : ℕ) (codes : Codes) (now : ℕ) (m : Measuring) (b : Bool)
+    → cond b (dcAfterV w mode flags codes now (dcVPart w mode codes now m)) (dcIPart w mode flags codes now m)
+    ≡ dcAfterV w mode flags codes now (cond b (dcVPart w mode codes now m) (ends m))
+unfolding ends
+by-flags w mode flags codes now m true = refl
+by-flags w mode flags codes now m false = refl
 
-dc-v-part-requires : tie.Need-dc-v-part-requires
-dc-v-part-requires c κs = search needs
+after-first : (w : Instrument) (mode : Mode) (flags : ℕ) (codes : Codes) (now : ℕ) (m : Measuring)
+    → dcFrame w mode flags codes now m ≡ dcAfterV w mode flags codes now (dcVFirst w mode flags codes now m)
+unfolding dcFrame dcVFirst
+after-first w mode flags codes now m = by-flags w mode flags codes now m (holdsRmsLpf flags)
+
+dc-v-first-requires : tie.Need-dc-v-first-requires
+dc-v-first-requires c κs = search needs
 
 returns : tie.Need-returns
-unfolding dcFrame
-returns c = let if2 = simp (c .before .dc-v-part .ensures) at (c .if2 .taken) in
-    let if1 = simp (c .before .before .before .holds-rms-lpf .ensures) at (c .before .before .if1 .taken) in
-    simp (c .before .dc-v-part .ensures, if2, if1)
+returns c =
+    let a = c .before .before .args in
+    let v = c .before .dc-v-first .ensures in
+    let marked = simp (v) at (c .if1 .taken) in
+    v ∙ sym (after-first (a .with) (a .mode) (a .flags) (a .codes) (a .now) (a .before) ∙ rw (marked))
 
 dc-i-part-requires : tie.Need-dc-i-part-requires
 dc-i-part-requires c κs = search needs
 
 returns-2 : tie.Need-returns-2
-unfolding dcFrame
-returns-2 c = let if2 = simp (c .before .before .dc-v-part .ensures) at (c .before .if2 .left) in
-    let if1 = simp (c .before .before .before .before .holds-rms-lpf .ensures) at (c .before .before .before .if1 .taken) in
-    simp (c .dc-i-part .ensures, c .before .before .dc-v-part .ensures, if2, if1)
-
-dc-i-part-requires-2 : tie.Need-dc-i-part-requires-2
-dc-i-part-requires-2 c κs = search needs
-
-returns-3 : tie.Need-returns-3
-unfolding dcFrame
-returns-3 c = let if1 = simp (c .before .before .holds-rms-lpf .ensures) at (c .before .if1 .left) in
-    simp (c .dc-i-part2 .ensures, if1)
+returns-2 c =
+    let a = c .before .before .before .args in
+    let v = c .before .before .dc-v-first .ensures in
+    let marked = simp (v) at (c .before .if1 .left) in
+    (c .dc-i-part .ensures ∙ ap (λ (o : Outcome). dcIPart (a .with) (a .mode) (a .flags) (a .codes) (a .now) (o .measuring)) v)
+    ∙ sym (after-first (a .with) (a .mode) (a .flags) (a .codes) (a .now) (a .before) ∙ rw (marked))
 
 pub dc-frame-spec : {M : Type 1} → statement M
-dc-frame-spec =
-    tie.close
-    (tie.spec
-    holds-rms-lpf-requires
-    dc-v-part-requires
-    returns
-    dc-i-part-requires
-    returns-2
-    dc-i-part-requires-2
-    returns-3)
+dc-frame-spec = tie.close (tie.spec dc-v-first-requires returns dc-i-part-requires returns-2)

@@ -1,0 +1,12 @@
+-- Field by field.
+use Rattle.meter.specs.Frame.{changing}
+use borrow.Author.Needs.{needs}
+use Rattle.meter.proofs.frame.changing_in.Statement.{statement}
+use Rattle.meter.proofs.frame.changing_in.Tie as tie
+
+returns : tie.Need-returns
+unfolding changing
+returns c = search needs
+
+pub changing-in-spec : {M : Type 1} → statement M
+changing-in-spec = tie.close (tie.spec returns)

@@ -1,0 +1,45 @@
+-- The callees; by whether the accounting is full.
+use mathlib.Core.Path.{ap, _∙_}
+use Rattle.values.specs.Vals.{loadOf}
+use Rattle.meter.specs.Frame.{readBy, readEntry}
+use Rattle.meter.proofs.Entered.{read-full, read-done}
+use borrow.Author.Needs.{needs}
+use Rattle.meter.proofs.frame.read.Statement.{statement}
+use Rattle.meter.proofs.frame.read.Tie as tie
+
+load-of-requires : tie.Need-load-of-requires
+load-of-requires c κs = search needs
+
+alternating-requires : tie.Need-alternating-requires
+alternating-requires c κs = search needs
+
+posted-requires : tie.Need-posted-requires
+posted-requires c κs = search needs
+
+returns : tie.Need-returns
+unfolding readEntry
+returns c =
+    let a = simp (c .before .before .before .alternating .ensures, c .before .before .before .before .load-of .ensures) at (c .before .before .posted .ensures) in
+    let b = c .before .before .before .before .before .args .basis in
+    read-full b (loadOf b) (c .before .before .posted .result) (c .if1 .taken) ∙ ap (readBy b (loadOf b)) a
+
+changing-in-requires : tie.Need-changing-in-requires
+changing-in-requires c κs = search needs
+
+values-of-requires : tie.Need-values-of-requires
+values-of-requires c κs = search needs
+
+reading-vals-requires : tie.Need-reading-vals-requires
+reading-vals-requires c κs = search needs
+
+returns-2 : tie.Need-returns-2
+unfolding readEntry
+returns-2 c =
+    let l = c .before .before .before .before .before .before .before .load-of .ensures in
+    let a = simp (c .before .before .before .before .before .before .alternating .ensures, l) at (c .before .before .before .before .before .posted .ensures) in
+    let b = c .before .before .before .before .before .before .before .before .args .basis in
+    simp (c .reading-vals .ensures, c .before .values-of .ensures, c .before .before .changing-in .ensures, l)
+    (read-done b (loadOf b) (c .before .before .before .before .before .posted .result) (c .before .before .before .if1 .left) ∙ ap (readBy b (loadOf b)) a)
+
+pub read-spec : {M : Type 1} → statement M
+read-spec = tie.close (tie.spec load-of-requires alternating-requires posted-requires returns changing-in-requires values-of-requires reading-vals-requires returns-2)

@@ -1,0 +1,4 @@
+pub mod Making
+pub mod Frame
+pub mod Calls
+pub mod Table

@@ -1,0 +1,14 @@
+use borrow.Author.Needs.{needs}
+use Rattle.orders.specs.Starts.{runSet}
+use Rattle.orders.proofs.starts.set_run.Statement.{statement}
+use Rattle.orders.proofs.starts.set_run.Tie as tie
+
+done-requires : tie.Need-done-requires
+done-requires c κs = search needs
+
+returns : tie.Need-returns
+unfolding runSet
+returns c = simp (c .done .ensures)
+
+pub set-run-spec : {M : Type 1} → statement M
+set-run-spec = tie.close (tie.spec done-requires returns)

@@ -1,0 +1,6 @@
+pub mod With
+pub mod Answer
+pub mod Apply
+pub mod Switches
+pub mod Ranges
+pub mod Starts
