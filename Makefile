@@ -21,11 +21,11 @@ SANITIZED = -g -O1 -fsanitize=address,undefined -fno-sanitize-recover=all
 LIBRARIES = target/staticlib
 PW = include/pw.h build/libpw.a
 LEAVES = host/leaves.h $(LIBRARIES)/libleaves.a
-BENCH = host/bench.c host/recording.c host/recording.h host/replay.c host/replay.h host/sheet.c host/sheet.h
-RECORD = host/record_day.c host/recording.c host/recording.h
-PWSCRIPT = host/pwscript.c host/functions.c host/calls.c host/script.h host/dump.c host/dump.h host/text.h host/words.c host/words.h
+BENCH = host/bench.c host/recording.c host/recording.h host/hex.h host/replay.c host/replay.h host/sheet.c host/sheet.h
+RECORD = host/record_day.c host/recording.c host/recording.h host/hex.h
+PWSCRIPT = host/pwscript.c host/functions.c host/calls.c host/script.h host/dump.c host/dump.h host/text.h host/words.c host/words.h host/hex.h
 FRAMES = tests/frames.c tests/jobs.c tests/jobs.h tests/values.c tests/values.h tests/transcript.c tests/transcript.h \
-	tests/cases.h tests/shown.h tests/fields.h tests/bits.h host/words.c host/words.h
+	tests/cases.h tests/shown.h tests/fields.h tests/bits.h host/words.c host/words.h host/hex.h
 VALUES = tests/test_values.c tests/checks.h tests/value_rule.h tests/meters.h tests/shown.h tests/fields.h tests/floats.h tests/bits.h
 JOBS = tests/test_jobs.c tests/checks.h tests/job_rule.h tests/meters.h tests/fields.h tests/floats.h tests/bits.h
 READOUTS = tests/test_readouts.c tests/checks.h tests/formats.h tests/shown.h tests/fields.h tests/floats.h tests/bits.h

@@ -1,5 +1,7 @@
 #include "recording.h"
 
+#include "hex.h"
+
 #include <errno.h>
 #include <inttypes.h>
 #include <stdarg.h>
@@ -57,16 +59,11 @@ static bool take_number(struct line *l, uint64_t most, uint64_t *n)
 /* A number of `digits` hex digits of either case, at most 16. */
 static bool take_hex(struct line *l, int digits, uint64_t *n)
 {
+    unsigned digit;
     for (*n = 0; digits > 0; digits--, l->at++) {
-        char c = l->at < l->end ? *l->at : ' ';
-        if (c >= '0' && c <= '9')
-            *n = *n * 16 + (uint64_t)(c - '0');
-        else if (c >= 'a' && c <= 'f')
-            *n = *n * 16 + (uint64_t)(c - 'a') + 10;
-        else if (c >= 'A' && c <= 'F')
-            *n = *n * 16 + (uint64_t)(c - 'A') + 10;
-        else
+        if (l->at >= l->end || !read_hex_digit(*l->at, &digit))
             return false;
+        *n = *n * 16 + digit;
     }
     return true;
 }

@@ -1,5 +1,7 @@
 #include "words.h"
 
+#include "hex.h"
+
 #include <string.h>
 
 /* ---- words ---- */
@@ -52,19 +54,6 @@ static bool take(struct word *w, char c)
 }
 
 /* ---- reading: false means not understood ---- */
-
-static bool read_hex_digit(char c, unsigned *digit)
-{
-    if (c >= '0' && c <= '9')
-        *digit = (unsigned)(c - '0');
-    else if (c >= 'a' && c <= 'f')
-        *digit = (unsigned)(c - 'a') + 10;
-    else if (c >= 'A' && c <= 'F')
-        *digit = (unsigned)(c - 'A') + 10;
-    else
-        return false;
-    return true;
-}
 
 bool read_bytes(struct word w, uint8_t *bytes, size_t count)
 {
