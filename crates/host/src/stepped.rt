@@ -1,5 +1,7 @@
 // What a call takes and answers.
 ghost use mathlib.Core.Path.{_≡_};
+ghost use Rattle.orders.specs.Answer.{refusedWith};
+ghost use Rattle.meter.specs.Frame.{frameDone};
 ghost use Rattle.host.specs.Stepped.{askOf, noReading, hostRead, hostStep, hostMade};
 use crate::shown::HostReadouts;
 use crate::shown::HostVal;
@@ -9,6 +11,7 @@ use meter::making::Made;
 use orders::answer::Reading;
 use orders::answer::Step;
 use orders::ranges::Ask;
+use refusals::Refusal;
 use refusals::number;
 use state::Pw;
 use state::Ranges;
@@ -150,6 +153,41 @@ fn host_read(reading: Reading) -> HostRead
         Reading::NoReading => HostRead {
             has_reading: false,
             reading: NO_READING,
+        },
+    }
+}
+
+// A refused call: its number alone.
+pub fn host_refused(told: Refusal, meter: Pw) -> HostStep
+    ensures { λ r. ⌜ r ≡ hostStep (refusedWith told meter) ⌝ }
+{
+    let refusal = number(told);
+    HostStep {
+        meter,
+        answer: HostAnswer {
+            refusal,
+            mark: Stamp { set: false, at: 0 },
+            used: 0,
+            has_reading: false,
+            reading: NO_READING,
+        },
+    }
+}
+
+// A frame that is done.
+pub fn host_done(meter: Pw, mark: Stamp, used: u8, shown: Reading) -> HostStep
+    ensures { λ r. ⌜ r ≡ hostStep (frameDone meter mark used shown) ⌝ }
+{
+    let read = host_read(shown);
+    let reading = read.reading;
+    HostStep {
+        meter,
+        answer: HostAnswer {
+            refusal: 0,
+            mark,
+            used,
+            has_reading: read.has_reading,
+            reading,
         },
     }
 }

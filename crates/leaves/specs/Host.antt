@@ -12,12 +12,13 @@ use mathlib.Core.Bool.{true, false, cond}
 use Prim.Native.Nat.{ℕ}
 use lib.Dec.{eqb}
 use lib.IntN.{pos}
+use Rattle.codes.specs.declared.Codes.{Codes}
 use Rattle.state.specs.declared.Pw.{Pw}
 use Rattle.ranging.specs.declared.apply.Keep.{Keep}
 use Rattle.ranging.specs.declared.apply.Keep.the-variants.{Nothing, Voltage, Current}
 use Rattle.ranging.specs.declared.apply.Applied.{Applied}
 use Rattle.paths.specs.declared.measuring.Outcome.{Outcome}
-use Rattle.paths.specs.Whole.{withMeasuring}
+use Rattle.paths.specs.Whole.{withOutcome}
 use Rattle.phase.specs.declared.CalOutcome.{CalOutcome}
 use Rattle.phase.specs.Phase.{calNumber, calSteps}
 use Rattle.leaves.specs.declared.jobbed.HostOutcome.{HostOutcome}
@@ -46,8 +47,8 @@ unfoldable pub keepOf : ℕ → Keep
 keepOf keep = cond (eqb keep 2) Voltage (cond (eqb keep 4) Current Nothing)
 
 -- a meter after a frame, and after an apply, with the mark to the host
-abbrev pub measuredPw : Pw → Outcome → MeasuredPw
-measuredPw m o = record { pw = withMeasuring m (o .measuring); mark = o .mark; «to_values» = o .«to_values» }
+abbrev pub measuredPw : Pw → ℕ → Codes → ℕ → Outcome → MeasuredPw
+measuredPw m flags codes now o = record { pw = withOutcome m flags codes now o; mark = o .mark; «to_values» = o .«to_values» }
 
 abbrev pub appliedPw : Pw → Applied → MeasuredPw
 appliedPw m a =

@@ -36,13 +36,15 @@ pub extern "C" fn leaf_frame(
     lpf: i32,
     rms: i64,
 ) -> MeasuredPw
-    ensures { λ r. ⌜ r ≡ measuredPw pw (frame (instrumentIn pw) (pw .mode) flags (record { ad1 = ad1; lpf = lpf; rms = rms }) now (measuringIn pw)) ⌝ }
+    ensures { λ r. ⌜ r ≡ measuredPw pw flags (record { ad1 = ad1; lpf = lpf; rms = rms }) now (frame (instrumentIn pw) (pw .mode) flags (record { ad1 = ad1; lpf = lpf; rms = rms }) now (measuringIn pw)) ⌝ }
 {
     let codes = Codes { ad1, lpf, rms };
     let with = paths::whole::instrument_in(pw);
     let before = paths::whole::measuring_in(pw);
     let outcome = paths::frame::frame(with, pw.mode, flags, codes, now, before);
-    let after = paths::whole::with_measuring(pw, outcome.measuring);
+    let taken = outcome.ad1_taken;
+    let ring = paths::ring::ring_after(pw.ring, pw.mode, pw.cycle, flags, codes, now, taken);
+    let after = paths::whole::with_measuring(pw, outcome.measuring, ring);
     let mark = outcome.mark;
     MeasuredPw {
         pw: after,

@@ -30,14 +30,15 @@ use Rattle.accounting.specs.Account.{account, posted, ledgerIn, withLedger}
 use Rattle.accounting.proofs.Posting.{answerOf, account-posted}
 use Rattle.orders.specs.declared.answer.Step.{Step}
 use Rattle.orders.specs.Answer.{late, refusedWith, marked}
-use Rattle.paths.specs.declared.measuring.Outcome.{Outcome}
 use Rattle.paths.specs.Frame as path
-use Rattle.paths.specs.Whole.{instrumentIn, measuringIn, withMeasuring}
+use Rattle.paths.specs.Whole.{instrumentIn, measuringIn, withMeasuring, withOutcome}
 use Rattle.meter.specs.declared.frame.PathEnd.{PathEnd}
 use Rattle.meter.specs.declared.frame.Entered.{Entered}
+use Rattle.meter.specs.declared.frame.Measurement.{Measurement}
 use Rattle.meter.specs.declared.frame.Opened.{Opened}
 use Rattle.meter.specs.declared.frame.Opened.the-variants.{Turned, InJob, Outside}
-use Rattle.meter.specs.Frame.{readingBy, readingOf, accountedStep, read, valuedBy, valued, framed, measuredBy, measured, changing, readingWith, readBy, readEntry, noEntry, entry, enteredStep, basisAfter, ledgerAfter, outsideBy, withPoll, inJob, taken, pollBy, poll, openWith, openBy, openFrame, pollOpened}
+use Rattle.meter.specs.Frame.{readingBy, readingOf, frameDone, accountedStep, read, valuedBy, valued, framed, measuredBy, measured, withPoll, inJob, taken, pollBy, poll}
+use Rattle.meter.specs.Divided.{changing, readingWith, readBy, readEntry, noEntry, entry, basisAfter, ledgerAfter, measurement, afterMeasurement, measuredStep, openWith, openBy, openFrame, pollOpened}
 
 -- the values of a meter with another ledger
 values-of-ledger : (n : Pw) (b : Ledger) → values (withLedger n b) ≡ valuesOf (basisIn n) (loadOf (basisIn n)) (changing b)
@@ -60,20 +61,11 @@ read-full b load a e = rw (e)
 pub read-done : (b : Basis) (load : Figures) (a : LedgerAnswer) → a .full ≡ false → record { full = false; ledger = a .ledger; reading = readingWith b load (a .ledger) } ≡ readBy b load a
 read-done b load a e = rw (e)
 
--- the step of an entry, by whether it is full
-pub step-full : (m : Pw) (o : Outcome) (e : Entered) → e .full ≡ true → refusedWith refusal.Full m ≡ enteredStep m o e
-step-full m o e f = rw (f)
-
-pub step-done :
-    (m : Pw) (o : Outcome) (e : Entered) → e .full ≡ false
-    → record { pw = withLedger (withMeasuring m (o .measuring)) (e .ledger); answer = record { refusal = refusal.Done; mark = o .mark; used = 0; reading = e .reading } } ≡ enteredStep m o e
-step-done m o e f = rw (f)
-
 -- a meter `n` after the path, whose `before` is the one that a full accounting gives back
 abbrev stepOf : Pw → Pw → Stamp → Entered → Step
 stepOf before n mark e =
     cond (e .full) (refusedWith refusal.Full before)
-    (record { pw = withLedger n (e .ledger); answer = record { refusal = refusal.Done; mark = mark; used = 0; reading = e .reading } })
+    (frameDone (withLedger n (e .ledger)) mark 0 (e .reading))
 
 module _ (before n : Pw) (t : ℕ) (mark : Stamp) where
   reading-of-ledger : (b : Ledger) → methods.measured (n .mode) (n .cycle .seen) ≡ true → readingOf (withLedger n b) ≡ readingWith (basisIn n) (loadOf (basisIn n)) b
@@ -84,7 +76,7 @@ module _ (before n : Pw) (t : ℕ) (mark : Stamp) where
       → cond f (refusedWith refusal.Full before) (accountedStep (withLedger n b) mark)
       ≡ stepOf before n mark (readBy (basisIn n) (loadOf (basisIn n)) (record { full = f; ledger = b }))
   by-full true b s = refl
-  by-full false b s = ap (λ (r : Reading). record { pw = withLedger n b; answer = record { refusal = refusal.Done; mark = mark; used = 0; reading = r } }) (reading-of-ledger b s)
+  by-full false b s = ap (frameDone (withLedger n b) mark 0) (reading-of-ledger b s)
 
   by-account : methods.measured (n .mode) (n .cycle .seen) ≡ true → read before n (values n) t mark ≡ stepOf before n mark (readEntry (basisIn n) (ledgerIn n) t)
   unfolding read readEntry basisIn
@@ -108,11 +100,22 @@ module _ (before n : Pw) (t : ℕ) (mark : Stamp) where
   by-values false = refl
 
 -- a frame outside a job
-pub measured-entered : (m : Pw) (t flags : ℕ) (codes : Codes) → measured m t flags codes ≡ outsideBy m t (path.frame (instrumentIn m) (m .mode) flags codes t (measuringIn m))
-unfolding measured framed withMeasuring basisIn basisAfter ledgerAfter
-measured-entered m t flags codes =
+pub measured-by : (m : Pw) (t flags : ℕ) (codes : Codes) → measured m t flags codes ≡ measuredStep m t flags codes (measurement m t flags codes)
+unfolding measured framed measurement afterMeasurement withMeasuring basisIn basisAfter ledgerAfter
+measured-by m t flags codes =
     let o = path.frame (instrumentIn m) (m .mode) flags codes t (measuringIn m) in
-    by-values m (withPoll (withMeasuring m (o .measuring)) t) t (o .mark) (o .«to_values»)
+    by-values m (withPoll (withOutcome m flags codes t o) t) t (o .mark) (o .«to_values»)
+
+-- by whether it is full
+module _ (m : Pw) (t flags : ℕ) (codes : Codes) (x : Measurement) (e : x ≡ measurement m t flags codes) where
+  of-measurement : measured m t flags codes ≡ measuredStep m t flags codes x
+  of-measurement = measured-by m t flags codes ∙ ap (measuredStep m t flags codes) (sym e)
+
+  pub step-full : x .full ≡ true → refusedWith refusal.Full m ≡ measured m t flags codes
+  step-full f = sym (of-measurement ∙ rw (f))
+
+  pub step-done : x .full ≡ false → (after : Pw) → after ≡ afterMeasurement m t flags codes x → frameDone after (x .mark) 0 (x .reading) ≡ measured m t flags codes
+  step-done f after a = ap (λ (n : Pw). frameDone n (x .mark) 0 (x .reading)) a ∙ sym (of-measurement ∙ rw (f))
 
 -- the whole call, by what becomes of the frame
 module _ (m : Pw) (t flags : ℕ) where

@@ -1,4 +1,5 @@
 pub mod Making
 pub mod Frame
+pub mod Divided
 pub mod Calls
 pub mod Table

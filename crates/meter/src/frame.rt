@@ -3,7 +3,8 @@
 ghost use mathlib.Core.Path.{_≡_};
 ghost use Rattle.paths.specs.Whole.{withMeasuring};
 ghost use Rattle.accounting.specs.Account.{withLedger};
-ghost use Rattle.meter.specs.Frame.{changing, readEntry, entry, basisAfter, ledgerAfter, measured, inJob, openWith, openFrame, poll};
+ghost use Rattle.meter.specs.Frame.{measured, inJob, poll};
+ghost use Rattle.meter.specs.Divided.{changing, readEntry, entry, basisAfter, ledgerAfter, measurement, afterMeasurement, openWith, openFrame};
 use accounting::Ledger;
 use accounting::posted;
 use codes::Codes;
@@ -16,11 +17,13 @@ use orders::answer::Step;
 use orders::answer::late;
 use orders::answer::refused_with;
 use paths::measuring::Measuring;
+use paths::ring::ring_after;
 use paths::whole::instrument_in;
 use paths::whole::measuring_in;
 use readouts::readings::reading_vals;
 use refusals::Refusal;
 use state::Pw;
+use state::Ring;
 use state::Stamp;
 use values::methods::alternating;
 use values::methods::measured;
@@ -42,6 +45,17 @@ struct Entered {
     full: bool,
     ledger: Ledger,
     reading: Reading,
+}
+
+// What a frame outside a job comes to: what its path and its accounting change, the mark, the reading, whether
+// an AD1 result was taken; or full.
+pub struct Measurement {
+    pub measuring: Measuring,
+    pub ledger: Ledger,
+    pub mark: Stamp,
+    pub reading: Reading,
+    pub ad1_taken: bool,
+    pub full: bool,
 }
 
 // What the values take of the ledger.
@@ -140,16 +154,15 @@ fn ledger_after(before: Pw, measuring: Measuring, time: u64) -> Ledger
     }
 }
 
-// The meter with all that the path and the accounting change.
-fn with_frame(before: Pw, measuring: Measuring, ledger: Ledger) -> Pw
-    ensures { λ r. ⌜ r ≡ withLedger (withMeasuring before measuring) ledger ⌝ }
+// The meter with all that the path and the accounting change, and this ring.
+fn with_frame(before: Pw, measuring: Measuring, ledger: Ledger, ring: Ring) -> Pw
+    ensures { λ r. ⌜ r ≡ withLedger (withMeasuring before measuring ring) ledger ⌝ }
 {
     let ranges = measuring.ranges;
     let barred = measuring.barred;
     let cycle = measuring.cycle;
     let parts = measuring.parts;
     let comparator = measuring.comparator;
-    let ring = measuring.ring;
     let tally = ledger.tally;
     let clock = ledger.clock;
     let powers = ledger.powers;
@@ -172,23 +185,57 @@ fn with_frame(before: Pw, measuring: Measuring, ledger: Ledger) -> Pw
     after
 }
 
-// A frame outside a job. Where the accounting is full the whole frame is undone: the meter is `before`.
-pub fn outside(before: Pw, time: u64, flags: u8, codes: Codes) -> Step
-    ensures { λ r. ⌜ r ≡ measured before time flags codes ⌝ }
+// A frame outside a job up to where the meter is put together.
+pub fn measure(before: Pw, time: u64, flags: u8, codes: Codes) -> Measurement
+    ensures { λ r. ⌜ r ≡ measurement before time flags codes ⌝ }
 {
     let with = instrument_in(before);
-    let measuring = measuring_in(before);
-    let outcome = paths::frame::frame(with, before.mode, flags, codes, time, measuring);
-    let m = outcome.measuring;
-    let basis = basis_after(before, m);
-    let ledger = ledger_after(before, m, time);
-    let entry = entry(outcome.to_values, basis, ledger, time);
-    if entry.full {
-        return refused_with(Refusal::Full, before);
-    }
+    let found = measuring_in(before);
+    let outcome = paths::frame::frame(with, before.mode, flags, codes, time, found);
+    let measuring = outcome.measuring;
+    let basis = basis_after(before, measuring);
+    let unposted = ledger_after(before, measuring, time);
+    let entry = entry(outcome.to_values, basis, unposted, time);
+    let ledger = entry.ledger;
     let mark = outcome.mark;
     let reading = entry.reading;
-    let pw = with_frame(before, m, entry.ledger);
+    Measurement {
+        measuring,
+        ledger,
+        mark,
+        reading,
+        ad1_taken: outcome.ad1_taken,
+        full: entry.full,
+    }
+}
+
+// The meter after it, with what the ring notes.
+pub fn after_measurement(before: Pw, time: u64, flags: u8, codes: Codes, made: Measurement) -> Pw
+    ensures { λ r. ⌜ r ≡ afterMeasurement before time flags codes made ⌝ }
+{
+    let ring = ring_after(
+        before.ring,
+        before.mode,
+        before.cycle,
+        flags,
+        codes,
+        time,
+        made.ad1_taken,
+    );
+    with_frame(before, made.measuring, made.ledger, ring)
+}
+
+// A frame outside a job. Where the accounting is full the whole frame is undone: the meter is `before`.
+fn outside(before: Pw, time: u64, flags: u8, codes: Codes) -> Step
+    ensures { λ r. ⌜ r ≡ measured before time flags codes ⌝ }
+{
+    let made = measure(before, time, flags, codes);
+    if made.full {
+        return refused_with(Refusal::Full, before);
+    }
+    let mark = made.mark;
+    let reading = made.reading;
+    let pw = after_measurement(before, time, flags, codes, made);
     Step {
         pw,
         answer: Answer {
@@ -201,7 +248,7 @@ pub fn outside(before: Pw, time: u64, flags: u8, codes: Codes) -> Step
 }
 
 // A frame in a job: no reading, and the count of ready frames.
-pub fn in_job(before: Pw, time: u64, flags: u8, codes: Codes) -> Step
+fn in_job(before: Pw, time: u64, flags: u8, codes: Codes) -> Step
     ensures { λ r. ⌜ r ≡ inJob before time flags codes ⌝ }
 {
     let polled = job_poll(before, time, flags, codes);

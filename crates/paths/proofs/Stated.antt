@@ -1,4 +1,4 @@
--- What follows from the definitions: the ring notes every RMS and LPF result, dropped or turned down too, and every AD1 result that is taken; a result turned down changes nothing else, a V range that changes ends the DC path, a frame leaves the automatic marks, ranges within the tables stay so, of the phase calibration only the sum and its count change, and a mark has its frame's deadline.
+-- What follows from the definitions: the ring notes every RMS and LPF result, dropped or turned down too, and every AD1 result that is taken; a result turned down changes nothing, a V range that changes ends the DC path, a frame leaves the automatic marks, ranges within the tables stay so, of the phase calibration only the sum and its count change, and a mark has its frame's deadline.
 use mathlib.Core.Path.{_≡_, refl, sym, subst, _∙_}
 use mathlib.Core.Bool.{Bool, true, false, cond}
 use mathlib.Core.Logic.{inl, inr}
@@ -34,34 +34,27 @@ use Rattle.ranging.proofs.Stated.{v-leaves, i-leaves, v-bounds, i-bounds, v-mar
 use Rattle.paths.specs.declared.measuring.Measuring.{Measuring}
 use Rattle.paths.specs.declared.measuring.Outcome.{Outcome}
 use Rattle.paths.specs.declared.ring.Raw.{Raw}
-use Rattle.paths.specs.Ring.{noted, noteResult, noteCurrent}
-use Rattle.paths.specs.Measuring.{ends, goesOn, withSkip, withSkipY, withTaken, withCycle, withRing, measuredIn, withMeasured, rangingIn, autorange, rangedTo}
+use Rattle.paths.specs.Ring.{noted, noteResult, noteCurrent, resultStat, isDropped, ringAfter}
+use Rattle.paths.specs.Measuring.{ends, goesOn, withSkip, withSkipY, withTaken, withCycle, withAd1, measuredIn, withMeasured, rangingIn, autorange, rangedTo}
 use Rattle.paths.specs.MethodB.{advanced, bUnranged, bNext}
 use Rattle.paths.specs.Alternating.{switched, altPhaseDone, altNext}
 use Rattle.paths.specs.Dc.{dcVAfter, dcVResult, dcVPart, dcIAfter, dcIResult, dcIPart, dcFrame}
-use Rattle.paths.specs.Frame.{resultStat, takeBy, methodFrame, frame}
+use Rattle.paths.specs.Frame.{takeBy, methodFrame, frame}
 use Rattle.paths.specs.Whole.{instrumentIn, measuringIn, withMeasuring}
 
 -- ---- each path by cases: what holds however a result goes holds of the path
 
 module _ (w : Instrument) (mode : Mode) (codes : Codes) (now : ℕ) (m : Measuring) where
-  -- what stands once a result is in the ring, once it is taken, and once the phase has counted it
-  abbrev inRing : Measuring
-  inRing = withRing m (noteResult (m .ring) now (resultStat mode (m .cycle)) (ltb 0 (m .cycle .skip)) codes)
-
+  -- what stands once a result is taken, and once the phase has counted it
   abbrev taken : Measuring
-  taken = withMeasured inRing (takeBy w mode codes m .measured)
+  taken = withMeasured m (takeBy w mode codes m .measured)
 
   abbrev counted : Measuring
   counted = withCycle m (withTaken (m .cycle) (countUp (m .cycle .taken)))
 
-  -- once a voltage of DC coupling is in it
-  abbrev dcVInRing : Measuring
-  dcVInRing = withRing m (noteResult (m .ring) now 3 (ltb 0 (m .cycle .«skip_y»)) codes)
-
   module _ (P : Outcome → Type 0) where
     -- both methods: dropped, turned down, or taken
-    method-cases : P (ends (withCycle inRing (withSkip (m .cycle) (m .cycle .skip - 1)))) → P (ends inRing) → P (altNext w mode now taken) → P (bNext w mode now taken) → P (methodFrame w mode codes now m)
+    method-cases : P (ends (withCycle m (withSkip (m .cycle) (m .cycle .skip - 1)))) → P (ends m) → P (altNext w mode now taken) → P (bNext w mode now taken) → P (methodFrame w mode codes now m)
     unfolding methodFrame
     method-cases dropped down alt b =
         either P (ltb 0 (m .cycle .skip)) dropped (either P (takeBy w mode codes m .accepted) (either P (mode .alt) alt b) down)
@@ -77,12 +70,12 @@ module _ (w : Instrument) (mode : Mode) (codes : Codes) (now : ℕ) (m : Measuri
     alt-cases more ranged other = either P (ltb (counted .cycle .taken) altN) more (either P (autorange w mode (eqb (m .cycle .phase % 2) 0) now counted .mark .set) ranged other)
 
     -- the voltage's part of the DC path: dropped, or taken, and then a range changes or not
-    dc-v-cases : let n = dcVAfter w codes dcVInRing in
-        P (ends (withCycle dcVInRing (withSkipY (m .cycle) (m .cycle .«skip_y» - 1))))
+    dc-v-cases : let n = dcVAfter w codes m in
+        P (ends (withCycle m (withSkipY (m .cycle) (m .cycle .«skip_y» - 1))))
         → P (rangedTo n (autorange w mode true now n)) → P (ends n) → P (dcVPart w mode codes now m)
     unfolding dcVPart dcVResult
     dc-v-cases dropped ranged unranged =
-        let n = dcVAfter w codes dcVInRing in
+        let n = dcVAfter w codes m in
         either P (ltb 0 (m .cycle .«skip_y»)) dropped (either P (autorange w mode true now n .mark .set) ranged unranged)
 
     -- the current's part of it, taken: a range changes or not
@@ -94,39 +87,45 @@ module _ (w : Instrument) (mode : Mode) (codes : Codes) (now : ℕ) (m : Measuri
 -- ---- document 01: "The ring notes it all the same"
 
 module _ (w : Instrument) (mode : Mode) (codes : Codes) (now : ℕ) (m : Measuring) where
-  -- both methods: dropped, turned down or taken, whatever comes after
-  pub method-notes : methodFrame w mode codes now m .measuring .ring ≡ noteResult (m .ring) now (resultStat mode (m .cycle)) (ltb 0 (m .cycle .skip)) codes
-  unfolding bUnranged switched ends goesOn rangedTo withMeasured
-  method-notes =
-      let n = taken w mode codes now m in
-      let P : Outcome → Type 0 = λ o. o .measuring .ring ≡ inRing w mode codes now m .ring in
-      method-cases w mode codes now m P refl refl (alt-cases w mode codes now n P refl refl refl) (b-cases w mode codes now n P refl refl refl)
+  -- a result of RMS and LPF: dropped, turned down or taken, whatever the frame comes to; where there is none, and no AD1 is taken, nothing is noted
+  pub result-noted : (r : Ring) (flags : ℕ) → holdsRmsLpf flags ≡ true → ringAfter r mode (m .cycle) flags codes now false ≡ noteResult r now (resultStat mode (m .cycle)) (isDropped mode (m .cycle)) codes
+  unfolding ringAfter
+  result-noted r flags ready = rw (ready)
 
-  -- the voltage's part of the DC path
-  pub dc-v-notes : dcVPart w mode codes now m .measuring .ring ≡ noteResult (m .ring) now 3 (ltb 0 (m .cycle .«skip_y»)) codes
-  unfolding ends rangedTo withMeasured
-  dc-v-notes = dc-v-cases w mode codes now m (λ o. o .measuring .ring ≡ dcVInRing w mode codes now m .ring) refl refl refl
+  pub none-noted : (r : Ring) (flags : ℕ) → holdsRmsLpf flags ≡ false → ringAfter r mode (m .cycle) flags codes now false ≡ r
+  unfolding ringAfter
+  none-noted r flags none = rw (none)
 
-  -- the current's part of it: a result that is taken, and not one that is dropped
-  pub dc-i-notes : (flags : ℕ) → holdsAd1 flags ≡ true → ltb 0 (m .cycle .skip) ≡ false → dcIPart w mode flags codes now m .measuring .ring ≡ noteCurrent (m .ring) (codes .ad1)
-  unfolding dcIPart goesOn rangedTo withMeasured
-  dc-i-notes flags ready kept =
-      rw (ready, kept) (dc-i-cases w mode codes now m (λ o. o .measuring .ring ≡ noteCurrent (m .ring) (codes .ad1)) refl refl)
+  -- one of AD1 comes after it
+  pub ad1-noted : (r : Ring) (flags : ℕ) → ringAfter r mode (m .cycle) flags codes now true ≡ noteCurrent (ringAfter r mode (m .cycle) flags codes now false) (codes .ad1)
+  unfolding ringAfter
+  ad1-noted r flags = refl
 
-  pub dc-i-drops : (flags : ℕ) → holdsAd1 flags ≡ true → ltb 0 (m .cycle .skip) ≡ true → dcIPart w mode flags codes now m .measuring .ring ≡ m .ring
+  -- AD1 is taken in the DC path alone, where it is ready and not dropped
+  pub ad1-is-taken : (flags : ℕ) → holdsAd1 flags ≡ true → ltb 0 (m .cycle .skip) ≡ false → dcIPart w mode flags codes now m .«ad1_taken» ≡ true
+  unfolding dcIPart
+  ad1-is-taken flags ready kept = rw (ready, kept)
+
+  pub ad1-is-dropped : (flags : ℕ) → holdsAd1 flags ≡ true → ltb 0 (m .cycle .skip) ≡ true → dcIPart w mode flags codes now m .«ad1_taken» ≡ false
   unfolding dcIPart ends
-  dc-i-drops flags ready dropped = rw (ready, dropped)
+  ad1-is-dropped flags ready dropped = rw (ready, dropped)
+
+  pub methods-take-none : methodFrame w mode codes now m .«ad1_taken» ≡ false
+  unfolding bUnranged switched ends goesOn rangedTo
+  methods-take-none =
+      let n = taken w mode codes now m in
+      let P : Outcome → Type 0 = λ o. o .«ad1_taken» ≡ false in
+      method-cases w mode codes now m P refl refl (alt-cases w mode codes now n P refl refl refl) (b-cases w mode codes now n P refl refl refl)
 
   -- ---- document 01: "single writes of R34 and R21 give no mark"
   pub next-phase-unmarked : bUnranged w m .mark .set ≡ false
   unfolding bUnranged goesOn
   next-phase-unmarked = refl
 
-  -- ---- a result turned down changes nothing but the ring
-  pub down-changes-ring : ltb 0 (m .cycle .skip) ≡ false → takeBy w mode codes m .accepted ≡ false
-      → methodFrame w mode codes now m ≡ ends (withRing m (noteResult (m .ring) now (resultStat mode (m .cycle)) false codes))
+  -- ---- a result turned down changes nothing; the ring notes it all the same (`result-noted`)
+  pub down-changes-nothing : ltb 0 (m .cycle .skip) ≡ false → takeBy w mode codes m .accepted ≡ false → methodFrame w mode codes now m ≡ ends m
   unfolding methodFrame
-  down-changes-ring kept down = rw (kept, down)
+  down-changes-nothing kept down = rw (kept, down)
 
   -- ---- the DC path ends where the V range changes: AD1 is not looked at
   pub v-range-ends : (flags : ℕ) → holdsRmsLpf flags ≡ true → dcVPart w mode codes now m .mark .set ≡ true → dcFrame w mode flags codes now m ≡ dcVPart w mode codes now m
@@ -179,9 +178,8 @@ module _ (R : Ranges → ℕ → PhaseCal → Type 0)
   dc-v-keeps : (m : Measuring) → Held m → Keeps (dcVPart w mode codes now m)
   unfolding ends withMeasured measuredIn
   dc-v-keeps m h =
-      let noted = dcVInRing w mode codes now m in
-      let k = subst (R (m .ranges) (m .barred)) (sym (dc-keeps-phase w (m .ranges) codes (measuredIn noted) .0)) h in
-      dc-v-cases w mode codes now m Keeps h (ranged true (dcVAfter w codes noted) k) k
+      let k = subst (R (m .ranges) (m .barred)) (sym (dc-keeps-phase w (m .ranges) codes (measuredIn m) .0)) h in
+      dc-v-cases w mode codes now m Keeps h (ranged true (dcVAfter w codes m) k) k
 
   dc-i-keeps : (flags : ℕ) (m : Measuring) → Held m → Keeps (dcIPart w mode flags codes now m)
   unfolding dcIPart ends goesOn withMeasured measuredIn
@@ -232,22 +230,22 @@ module _ (w : Instrument) (mode : Mode) (codes : Codes) (now flags : ℕ) (m : M
       w mode codes now flags m (refl, refl, refl, refl, refl)
 
 -- ---- a whole meter: what is put in is what is read, and nothing else moves
-pub read-back : (m : Pw) (x : Measuring) → measuringIn (withMeasuring m x) ≡ x
+pub read-back : (m : Pw) (x : Measuring) (r : Ring) → measuringIn (withMeasuring m x r) ≡ x
 unfolding measuringIn withMeasuring
-read-back m x = refl
+read-back m x r = refl
 
-pub put-back : (m : Pw) → withMeasuring m (measuringIn m) ≡ m
+pub put-back : (m : Pw) → withMeasuring m (measuringIn m) (m .ring) ≡ m
 unfolding measuringIn withMeasuring
 put-back m = refl
 
-pub rest-stays : (m : Pw) (x : Measuring) → let n = withMeasuring m x in
+pub rest-stays : (m : Pw) (x : Measuring) (r : Ring) → let n = withMeasuring m x r in
     (n .mode ≡ m .mode) × (n .powers ≡ m .powers) × (n .tally ≡ m .tally) × (n .clock ≡ m .clock) × (n .«over_t0» ≡ m .«over_t0») × (n .settings ≡ m .settings) × (n .job ≡ m .job)
 unfolding withMeasuring
-rest-stays m x = (refl, refl, refl, refl, refl, refl, refl)
+rest-stays m x r = (refl, refl, refl, refl, refl, refl, refl)
 
-pub instrument-stays : (m : Pw) (x : Measuring) → instrumentIn (withMeasuring m x) ≡ instrumentIn m
+pub instrument-stays : (m : Pw) (x : Measuring) (r : Ring) → instrumentIn (withMeasuring m x r) ≡ instrumentIn m
 unfolding instrumentIn withMeasuring
-instrument-stays m x = refl
+instrument-stays m x r = refl
 
 -- ---- the ring: an entry is read back at its place, from all five arrays, and every other place stays as it was
 abbrev pub entry : Ring → ℕ → Raw
@@ -291,7 +289,7 @@ module _ (w : Instrument) (mode : Mode) (codes : Codes) (now : ℕ) where
 
   dc-v-mark : (m : Measuring) → Marks (dcVPart w mode codes now m)
   unfolding ends
-  dc-v-mark m = dc-v-cases w mode codes now m Marks (inl refl) (ranged-mark true (dcVAfter w codes (dcVInRing w mode codes now m))) (inl refl)
+  dc-v-mark m = dc-v-cases w mode codes now m Marks (inl refl) (ranged-mark true (dcVAfter w codes m)) (inl refl)
 
   dc-i-mark : (flags : ℕ) (m : Measuring) → Marks (dcIPart w mode flags codes now m)
   unfolding dcIPart ends goesOn

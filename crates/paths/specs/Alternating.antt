@@ -1,5 +1,5 @@
 -- The alternating method after a result was taken: `poll_power` of the source from `taken` on, where `alt` is true.
-use mathlib.Core.Bool.{true, cond}
+use mathlib.Core.Bool.{true, false, cond}
 use Prim.Native.Nat.{ℕ, _%_}
 use lib.Dec.{ltb, eqb}
 use Rattle.tables.specs.Constants.{altN}
@@ -18,6 +18,7 @@ switched now m =
       measuring = withCycle m (altSwitch (m .cycle) now .cycle);
       mark = record { set = true; at = altSwitch (m .cycle) now .deadline };
       «to_values» = true;
+      «ad1_taken» = false;
     }
 
 -- the phase has its results

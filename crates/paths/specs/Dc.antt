@@ -9,8 +9,7 @@ use Rattle.takes.specs.declared.scales.Instrument.{Instrument}
 use Rattle.takes.specs.Take.{dcVTaken, dcITaken}
 use Rattle.paths.specs.declared.measuring.Measuring.{Measuring}
 use Rattle.paths.specs.declared.measuring.Outcome.{Outcome}
-use Rattle.paths.specs.Ring.{noteResult, noteCurrent}
-use Rattle.paths.specs.Measuring.{ends, goesOn, withSkip, withSkipY, withCycle, withRing, measuredIn, withMeasured, autorange, unlessRanged}
+use Rattle.paths.specs.Measuring.{ends, goesOn, withSkip, withSkipY, withCycle, withAd1, measuredIn, withMeasured, autorange, unlessRanged}
 
 -- the voltage is taken
 abbrev pub dcVAfter : Instrument → Codes → Measuring → Measuring
@@ -21,27 +20,25 @@ dcVResult w mode codes now m =
     let after = dcVAfter w codes m in
     unlessRanged after (ends after) (autorange w mode true now after)
 
--- the ring's entry has `stat: 3`, and `disc: skip_y > 0`
+-- dropped while `skip_y > 0`
 unfoldable pub dcVPart : Instrument → Mode → Codes → ℕ → Measuring → Outcome
 dcVPart w mode codes now m =
-    let disc = ltb 0 (m .cycle .«skip_y») in
-    let noted = withRing m (noteResult (m .ring) now 3 disc codes) in
-    cond disc (ends (withCycle noted (withSkipY (m .cycle) (m .cycle .«skip_y» - 1)))) (dcVResult w mode codes now noted)
+    cond (ltb 0 (m .cycle .«skip_y»)) (ends (withCycle m (withSkipY (m .cycle) (m .cycle .«skip_y» - 1)))) (dcVResult w mode codes now m)
 
--- the current is taken, with the ring's entry
+-- the current is taken
 abbrev pub dcIAfter : Instrument → Codes → Measuring → Measuring
-dcIAfter w codes m = withMeasured (withRing m (noteCurrent (m .ring) (codes .ad1))) (dcITaken w (m .ranges .ik) codes (measuredIn m))
+dcIAfter w codes m = withMeasured m (dcITaken w (m .ranges .ik) codes (measuredIn m))
 
 unfoldable pub dcIResult : Instrument → Mode → Codes → ℕ → Measuring → Outcome
 dcIResult w mode codes now m =
     let after = dcIAfter w codes m in
     unlessRanged after (goesOn after) (autorange w mode false now after)
 
--- where AD1 is ready; a dropped result leaves no entry in the ring
+-- where AD1 is ready; one that is taken is noted in the ring, a dropped one is not
 unfoldable pub dcIPart : Instrument → Mode → ℕ → Codes → ℕ → Measuring → Outcome
 dcIPart w mode flags codes now m =
     cond (holdsAd1 flags)
-    (cond (ltb 0 (m .cycle .skip)) (ends (withCycle m (withSkip (m .cycle) (m .cycle .skip - 1)))) (dcIResult w mode codes now m))
+    (cond (ltb 0 (m .cycle .skip)) (ends (withCycle m (withSkip (m .cycle) (m .cycle .skip - 1)))) (withAd1 (dcIResult w mode codes now m)))
     (ends m)
 
 -- a V range that changed ends the frame, its AD1 unread

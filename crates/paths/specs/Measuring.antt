@@ -1,10 +1,9 @@
--- What a frame outside a job may change, and what it answers: rule 1 of docs/ARCHITECTURE.md. It also reads the description, the words, the corrections and the mode; nothing else of the meter is handed to it.
+-- What a frame outside a job may change, and what it answers: rule 1 of docs/ARCHITECTURE.md. It also reads the description, the words, the corrections and the mode; nothing else of the meter is handed to it. What the ring notes follows from the frame and what it answers (specs/Ring.antt).
 use mathlib.Core.Bool.{Bool, true, false, cond}
 use Prim.Native.Nat.{ℕ}
 use Rattle.state.specs.declared.Comparator.{Comparator}
 use Rattle.state.specs.declared.Cycle.{Cycle}
 use Rattle.state.specs.declared.Mode.{Mode}
-use Rattle.state.specs.declared.Ring.{Ring}
 use Rattle.state.specs.Fresh.{noTime}
 use Rattle.takes.specs.declared.scales.Instrument.{Instrument}
 use Rattle.takes.specs.declared.take.Measured.{Measured}
@@ -16,11 +15,11 @@ use Rattle.paths.specs.declared.measuring.Outcome.{Outcome}
 
 -- the frame ends here: no mark, and no values
 unfoldable pub ends : Measuring → Outcome
-ends m = record { measuring = m; mark = noTime; «to_values» = false }
+ends m = record { measuring = m; mark = noTime; «to_values» = false; «ad1_taken» = false }
 
 -- the source goes on to `pw_vals`, and where that answers values to `pw_account`
 unfoldable pub goesOn : Measuring → Outcome
-goesOn m = record { measuring = m; mark = noTime; «to_values» = true }
+goesOn m = record { measuring = m; mark = noTime; «to_values» = true; «ad1_taken» = false }
 
 -- ---- one field replaced
 
@@ -38,15 +37,15 @@ withTaken c taken = record { phase = c .phase; skip = c .skip; «skip_y» = c .�
 
 abbrev pub withCycle : Measuring → Cycle → Measuring
 withCycle m c =
-    record { ranges = m .ranges; barred = m .barred; cycle = c; parts = m .parts; «phase_cal» = m .«phase_cal»; comparator = m .comparator; ring = m .ring }
+    record { ranges = m .ranges; barred = m .barred; cycle = c; parts = m .parts; «phase_cal» = m .«phase_cal»; comparator = m .comparator }
 
 abbrev pub withComparator : Measuring → Comparator → Measuring
 withComparator m k =
-    record { ranges = m .ranges; barred = m .barred; cycle = m .cycle; parts = m .parts; «phase_cal» = m .«phase_cal»; comparator = k; ring = m .ring }
+    record { ranges = m .ranges; barred = m .barred; cycle = m .cycle; parts = m .parts; «phase_cal» = m .«phase_cal»; comparator = k }
 
-abbrev pub withRing : Measuring → Ring → Measuring
-withRing m r =
-    record { ranges = m .ranges; barred = m .barred; cycle = m .cycle; parts = m .parts; «phase_cal» = m .«phase_cal»; comparator = m .comparator; ring = r }
+-- an AD1 result was taken
+abbrev pub withAd1 : Outcome → Outcome
+withAd1 o = record { measuring = o .measuring; mark = o .mark; «to_values» = o .«to_values»; «ad1_taken» = true }
 
 -- ---- what the takes may change
 
@@ -62,7 +61,6 @@ withMeasured m t =
       parts = t .parts;
       «phase_cal» = t .«phase_cal»;
       comparator = m .comparator;
-      ring = m .ring;
     }
 
 -- ---- what an autorange may change
@@ -87,10 +85,10 @@ rangedTo m r =
         parts = m .parts;
         «phase_cal» = m .«phase_cal»;
         comparator = r .ranging .comparator;
-        ring = m .ring;
       };
       mark = r .mark;
       «to_values» = false;
+      «ad1_taken» = false;
     }
 
 -- a range that was applied ends the frame

@@ -1,11 +1,15 @@
 -- The ring. Document 01, of a result that is turned down: "The ring notes it all the same: sixteen latest conversions are kept with the meter, by `ring_k` modulo 16."
-use mathlib.Core.Bool.{Bool, false}
+use mathlib.Core.Bool.{Bool, false, cond}
 use Prim.Native.Nat.{ℕ, _+_, _%_, _^_}
+use lib.Dec.{ltb}
 use lib.IntN.{ℤ, pos}
 use lib.ListN.{set}
 use Rattle.codes.specs.declared.Codes.{Codes}
+use Rattle.codes.specs.Flags.{holdsRmsLpf}
 use Rattle.tables.specs.Bounds.{atMost}
 use Rattle.tables.specs.Constants.{ringN}
+use Rattle.state.specs.declared.Cycle.{Cycle}
+use Rattle.state.specs.declared.Mode.{Mode}
 use Rattle.state.specs.declared.Ring.{Ring}
 use Rattle.state.specs.Counting.{elapsed}
 use Rattle.paths.specs.declared.ring.Raw.{Raw}
@@ -43,3 +47,17 @@ noteResult r now stat disc codes =
 -- a result of AD1 in the DC row: `Raw { stat: 4, disc: false, rms: 0, lpf: ad1, dt: 0 }`
 unfoldable pub noteCurrent : Ring → ℤ → Ring
 noteCurrent r ad1 = noted r (record { stat = 4; disc = false; rms = pos 0; lpf = ad1; dt = 0 })
+
+-- a result's number: `if alt { 1 + (phase & 1) } else { stat }`; in DC coupling `stat: 3`
+unfoldable pub resultStat : Mode → Cycle → ℕ
+resultStat mode c = cond (mode .dc) 3 (cond (mode .alt) (1 + c .phase % 2) (c .stat))
+
+-- `disc = skip > 0`; in DC coupling `disc: skip_y > 0`
+unfoldable pub isDropped : Mode → Cycle → Bool
+isDropped mode c = cond (mode .dc) (ltb 0 (c .«skip_y»)) (ltb 0 (c .skip))
+
+-- the ring after a frame that came upon the cycle c: a result of RMS and LPF is noted before it is looked at, one of AD1 once it is to be taken
+unfoldable pub ringAfter : Ring → Mode → Cycle → ℕ → Codes → ℕ → Bool → Ring
+ringAfter r mode c flags codes now ad1Taken =
+    let first = cond (holdsRmsLpf flags) (noteResult r now (resultStat mode c) (isDropped mode c) codes) r in
+    cond ad1Taken (noteCurrent first (codes .ad1)) first

@@ -1,7 +1,12 @@
 -- The parts of a whole meter that a frame outside a job reads, and those that it may change.
+use Prim.Native.Nat.{ℕ}
+use Rattle.codes.specs.declared.Codes.{Codes}
 use Rattle.state.specs.declared.Pw.{Pw}
+use Rattle.state.specs.declared.Ring.{Ring}
 use Rattle.takes.specs.declared.scales.Instrument.{Instrument}
 use Rattle.paths.specs.declared.measuring.Measuring.{Measuring}
+use Rattle.paths.specs.declared.measuring.Outcome.{Outcome}
+use Rattle.paths.specs.Ring.{ringAfter}
 
 unfoldable pub instrumentIn : Pw → Instrument
 instrumentIn m = record { description = m .description; calibration = m .calibration; corrections = m .corrections }
@@ -15,12 +20,11 @@ measuringIn m =
       parts = m .parts;
       «phase_cal» = m .«phase_cal»;
       comparator = m .comparator;
-      ring = m .ring;
     }
 
 -- all else stays: description and words, mode, powers, tally, clock, `over_t0`, settings, corrections and job. `t_poll` is set by the frame call, after this (meter/specs/Frame.antt)
-unfoldable pub withMeasuring : Pw → Measuring → Pw
-withMeasuring m x =
+unfoldable pub withMeasuring : Pw → Measuring → Ring → Pw
+withMeasuring m x r =
     record {
       description = m .description;
       calibration = m .calibration;
@@ -38,5 +42,9 @@ withMeasuring m x =
       corrections = m .corrections;
       job = m .job;
       comparator = x .comparator;
-      ring = x .ring;
+      ring = r;
     }
+
+-- the meter after a frame that ended so, with what its ring notes
+abbrev pub withOutcome : Pw → ℕ → Codes → ℕ → Outcome → Pw
+withOutcome m flags codes now o = withMeasuring m (o .measuring) (ringAfter (m .ring) (m .mode) (m .cycle) flags codes now (o .«ad1_taken»))

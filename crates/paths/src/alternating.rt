@@ -28,6 +28,7 @@ fn switched(now: u64, before: Measuring) -> Outcome
             at: next.deadline,
         },
         to_values: true,
+        ad1_taken: false,
     }
 }
 

@@ -10,8 +10,6 @@ use crate::measuring::goes_on;
 use crate::measuring::measured_in;
 use crate::measuring::ranged_to;
 use crate::measuring::with_measured;
-use crate::ring::note_current;
-use crate::ring::note_result;
 use codes::Codes;
 use codes::holds_ad1;
 use codes::holds_rms_lpf;
@@ -33,31 +31,26 @@ fn dc_v_result(with: Instrument, mode: Mode, codes: Codes, now: u64, before: Mea
     ends(after)
 }
 
-// The voltage's part of the frame: the ring's entry, then a dropped result or one taken.
+// The voltage's part of the frame: a dropped result or one taken.
 fn dc_v_part(with: Instrument, mode: Mode, codes: Codes, now: u64, before: Measuring) -> Outcome
     ensures { λ r. ⌜ r ≡ dcVPart with mode codes now before ⌝ }
 {
     let skip_y = before.cycle.skip_y;
-    let ring = note_result(before.ring, now, 3, skip_y > 0, codes);
-    let mut noted = before;
-    noted.ring = ring;
+    let mut dropped = before;
     if skip_y > 0 {
         let left = skip_y - 1;
-        noted.cycle.skip_y = left;
-        return ends(noted);
+        dropped.cycle.skip_y = left;
+        return ends(dropped);
     }
-    dc_v_result(with, mode, codes, now, noted)
+    dc_v_result(with, mode, codes, now, before)
 }
 
-// A current is taken: the ring's entry, the take, and its autorange.
+// A current is taken; then its autorange.
 fn dc_i_result(with: Instrument, mode: Mode, codes: Codes, now: u64, before: Measuring) -> Outcome
     ensures { λ r. ⌜ r ≡ dcIResult with mode codes now before ⌝ }
 {
-    let ring = note_current(before.ring, codes.ad1);
-    let mut noted = before;
-    noted.ring = ring;
     let measured = dc_i_taken(with, before.ranges.ik, codes, measured_in(before));
-    let after = with_measured(noted, measured);
+    let after = with_measured(before, measured);
     let ranged = autorange(with, mode, false, now, after);
     if ranged.mark.set {
         return ranged_to(after, ranged);
@@ -65,7 +58,7 @@ fn dc_i_result(with: Instrument, mode: Mode, codes: Codes, now: u64, before: Mea
     goes_on(after)
 }
 
-// The current's part of the frame. A dropped result leaves no entry in the ring.
+// The current's part of the frame: the ring does not note a dropped result.
 fn dc_i_part(
     with: Instrument,
     mode: Mode,
@@ -84,7 +77,9 @@ fn dc_i_part(
             dropped.cycle.skip = left;
             return ends(dropped);
         }
-        return dc_i_result(with, mode, codes, now, before);
+        let mut taken = dc_i_result(with, mode, codes, now, before);
+        taken.ad1_taken = true;
+        return taken;
     }
     ends(before)
 }

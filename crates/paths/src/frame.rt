@@ -9,7 +9,6 @@ use crate::measuring::ends;
 use crate::measuring::measured_in;
 use crate::measuring::with_measured;
 use crate::method_b::b_next;
-use crate::ring::note_result;
 use codes::Codes;
 use codes::holds_rms_lpf;
 use state::Mode;
@@ -17,25 +16,17 @@ use takes::scales::Instrument;
 use takes::take::take;
 use takes::take::take_alt;
 
-// Method B or the alternating method: the ring's entry; then a dropped result, one turned down, or one
-// taken.
+// Method B or the alternating method: a dropped result, one turned down, or one taken.
 fn method_frame(with: Instrument, mode: Mode, codes: Codes, now: u64, before: Measuring) -> Outcome
     ensures { λ r. ⌜ r ≡ methodFrame with mode codes now before ⌝ }
 {
     let cycle = before.cycle;
     let skip = cycle.skip;
-    let stat = if mode.alt {
-        1 + cycle.phase % 2
-    } else {
-        cycle.stat
-    };
-    let ring = note_result(before.ring, now, stat, skip > 0, codes);
-    let mut noted = before;
-    noted.ring = ring;
+    let mut dropped = before;
     if skip > 0 {
         let left = skip - 1;
-        noted.cycle.skip = left;
-        return ends(noted);
+        dropped.cycle.skip = left;
+        return ends(dropped);
     }
     let measured = measured_in(before);
     let taken = if mode.alt {
@@ -44,13 +35,13 @@ fn method_frame(with: Instrument, mode: Mode, codes: Codes, now: u64, before: Me
         take(with, before.ranges, cycle.stat, codes, measured)
     };
     if taken.accepted {
-        let after = with_measured(noted, taken.measured);
+        let after = with_measured(before, taken.measured);
         if mode.alt {
             return alt_next(with, mode, now, after);
         }
         return b_next(with, mode, now, after);
     }
-    ends(noted)
+    ends(before)
 }
 
 // DC coupling comes before the method. Both methods need RMS and LPF, or nothing happens.

@@ -11,12 +11,11 @@ use state::Mode;
 use state::Parts;
 use state::PhaseCal;
 use state::Ranges;
-use state::Ring;
 use state::Stamp;
 use takes::scales::Instrument;
 use takes::take::Measured;
 
-// The meter's fields that a frame outside a job may change.
+// The meter's fields that a frame outside a job may change, but for the ring.
 #[repr(C)]
 pub struct Measuring {
     pub ranges: Ranges,
@@ -25,16 +24,17 @@ pub struct Measuring {
     pub parts: Parts,
     pub phase_cal: PhaseCal,
     pub comparator: Comparator,
-    pub ring: Ring,
 }
 
 // What stands after the frame, the mark to the host, and whether the source goes on to `pw_vals`; that
-// may still answer none (not all of `seen` marked), and then nothing is accounted.
+// may still answer none (not all of `seen` marked), and then nothing is accounted; and whether an AD1 result
+// was taken, which the ring notes.
 #[repr(C)]
 pub struct Outcome {
     pub measuring: Measuring,
     pub mark: Stamp,
     pub to_values: bool,
+    pub ad1_taken: bool,
 }
 
 // The frame ends: no mark, no values.
@@ -45,6 +45,7 @@ pub(crate) fn ends(measuring: Measuring) -> Outcome
         measuring,
         mark: Stamp { set: false, at: 0 },
         to_values: false,
+        ad1_taken: false,
     }
 }
 
@@ -56,6 +57,7 @@ pub(crate) fn goes_on(measuring: Measuring) -> Outcome
         measuring,
         mark: Stamp { set: false, at: 0 },
         to_values: true,
+        ad1_taken: false,
     }
 }
 
@@ -135,5 +137,6 @@ pub(crate) fn ranged_to(before: Measuring, ranged: Ranged) -> Outcome
         measuring: after,
         mark,
         to_values: false,
+        ad1_taken: false,
     }
 }

@@ -1,7 +1,10 @@
 // The ring: the sixteen latest conversions, by `ring_k` modulo 16.
 ghost use mathlib.Core.Path.{_≡_};
-ghost use Rattle.paths.specs.Ring.{heldDt, nextNumber, noted, noteResult, noteCurrent};
+ghost use Rattle.paths.specs.Ring.{heldDt, nextNumber, noted, noteResult, noteCurrent, resultStat, isDropped, ringAfter};
 use codes::Codes;
+use codes::holds_rms_lpf;
+use state::Cycle;
+use state::Mode;
 use state::Ring;
 use state::elapsed;
 
@@ -49,7 +52,7 @@ fn noted(before: Ring, raw: Raw) -> Ring
 }
 
 // An RMS and LPF result at the time `now`.
-pub(crate) fn note_result(before: Ring, now: u64, stat: u8, disc: bool, codes: Codes) -> Ring
+fn note_result(before: Ring, now: u64, stat: u8, disc: bool, codes: Codes) -> Ring
     ensures { λ r. ⌜ r ≡ noteResult before now stat disc codes ⌝ }
 {
     let dt = held_dt(now, before.t_res);
@@ -70,7 +73,7 @@ pub(crate) fn note_result(before: Ring, now: u64, stat: u8, disc: bool, codes: C
 }
 
 // An AD1 result of the DC row: it stands in the place of the LPF's code, and no time goes with it.
-pub(crate) fn note_current(before: Ring, ad1: i32) -> Ring
+fn note_current(before: Ring, ad1: i32) -> Ring
     ensures { λ r. ⌜ r ≡ noteCurrent before ad1 ⌝ }
 {
     let raw = Raw {
@@ -81,4 +84,52 @@ pub(crate) fn note_current(before: Ring, ad1: i32) -> Ring
         dt: 0,
     };
     noted(before, raw)
+}
+
+// The number of an RMS and LPF result: 3 in DC coupling, 1 and 2 in the alternating method, R34 in method B.
+fn result_stat(mode: Mode, cycle: Cycle) -> u8
+    ensures { λ r. ⌜ r ≡ resultStat mode cycle ⌝ }
+{
+    if mode.dc {
+        return 3;
+    }
+    if mode.alt {
+        return 1 + cycle.phase % 2;
+    }
+    cycle.stat
+}
+
+// Whether an RMS and LPF result is dropped.
+fn is_dropped(mode: Mode, cycle: Cycle) -> bool
+    ensures { λ r. ⌜ r ≡ isDropped mode cycle ⌝ }
+{
+    if mode.dc {
+        return cycle.skip_y > 0;
+    }
+    cycle.skip > 0
+}
+
+// The ring after a frame that came upon this cycle: an RMS and LPF result is noted in any case, one of AD1
+// where it was taken.
+pub fn ring_after(
+    before: Ring,
+    mode: Mode,
+    cycle: Cycle,
+    flags: u8,
+    codes: Codes,
+    now: u64,
+    ad1_taken: bool,
+) -> Ring
+    ensures { λ r. ⌜ r ≡ ringAfter before mode cycle flags codes now «ad1_taken» ⌝ }
+{
+    let mut ring = before;
+    let stat = result_stat(mode, cycle);
+    let disc = is_dropped(mode, cycle);
+    if holds_rms_lpf(flags) {
+        ring = note_result(before, now, stat, disc, codes);
+    }
+    if ad1_taken {
+        return note_current(ring, codes.ad1);
+    }
+    ring
 }

@@ -3,6 +3,7 @@ ghost use mathlib.Core.Path.{_≡_};
 ghost use Rattle.paths.specs.Whole.{instrumentIn, measuringIn, withMeasuring};
 use crate::measuring::Measuring;
 use state::Pw;
+use state::Ring;
 use takes::scales::Instrument;
 
 pub fn instrument_in(pw: Pw) -> Instrument
@@ -26,7 +27,6 @@ pub fn measuring_in(pw: Pw) -> Measuring
     let parts = pw.parts;
     let phase_cal = pw.phase_cal;
     let comparator = pw.comparator;
-    let ring = pw.ring;
     Measuring {
         ranges,
         barred: pw.barred,
@@ -34,12 +34,11 @@ pub fn measuring_in(pw: Pw) -> Measuring
         parts,
         phase_cal,
         comparator,
-        ring,
     }
 }
 
-pub fn with_measuring(before: Pw, measuring: Measuring) -> Pw
-    ensures { λ r. ⌜ r ≡ withMeasuring before measuring ⌝ }
+pub fn with_measuring(before: Pw, measuring: Measuring, ring: Ring) -> Pw
+    ensures { λ r. ⌜ r ≡ withMeasuring before measuring ring ⌝ }
 {
     let ranges = measuring.ranges;
     let barred = measuring.barred;
@@ -47,7 +46,6 @@ pub fn with_measuring(before: Pw, measuring: Measuring) -> Pw
     let parts = measuring.parts;
     let phase_cal = measuring.phase_cal;
     let comparator = measuring.comparator;
-    let ring = measuring.ring;
     let mut after = before;
     after.ranges = ranges;
     after.barred = barred;

@@ -6,13 +6,17 @@ ghost use Rattle.host.specs.Stepped.{askOf, hostStep, hostMade};
 use host::stepped::HostMade;
 use host::stepped::HostStep;
 use host::stepped::ask_of;
+use host::stepped::host_done;
 use host::stepped::host_made;
+use host::stepped::host_refused;
 use host::stepped::host_step;
+use jobs::whole::job_poll;
 use meter::frame::Opened;
-use meter::frame::in_job;
+use meter::frame::after_measurement;
+use meter::frame::measure;
 use meter::frame::open_frame;
-use meter::frame::outside;
-use orders::answer::refused_with;
+use orders::answer::Reading;
+use refusals::Refusal;
 use state::Pw;
 use tables::description::Description;
 
@@ -102,15 +106,32 @@ pub extern "C" fn pw_reapply(meter: Pw, time: u64) -> HostStep
     host_step(orders::switches::reapply(meter, time))
 }
 
-// As `meter::frame::poll` has it, in one function: a meter that passes between two of them is copied.
+// As `meter::frame::poll` has it, in one function, and each answer is returned where it is known: a meter that
+// passes between two functions, or that two branches join on, is copied.
 #[no_mangle]
 pub extern "C" fn pw_frame(meter: Pw, time: u64, flags: u8, bytes: &[u8]) -> HostStep
     ensures { λ r. ⌜ r ≡ hostStep (step meter (Frame time flags (now (bytes .entry)))) ⌝ }
 {
     let frame = open_frame(meter.mode.on, meter.job.job, time, bytes);
     match frame {
-        Opened::Turned(refusal) => host_step(refused_with(refusal, meter)),
-        Opened::InJob(codes) => host_step(in_job(meter, time, flags, codes)),
-        Opened::Outside(codes) => host_step(outside(meter, time, flags, codes)),
+        Opened::Turned(refusal) => {
+            return host_refused(refusal, meter);
+        }
+        Opened::InJob(codes) => {
+            let polled = job_poll(meter, time, flags, codes);
+            let after = polled.pw;
+            let mark = polled.mark;
+            return host_done(after, mark, polled.used, Reading::NoReading);
+        }
+        Opened::Outside(codes) => {
+            let made = measure(meter, time, flags, codes);
+            if made.full {
+                return host_refused(Refusal::Full, meter);
+            }
+            let mark = made.mark;
+            let reading = made.reading;
+            let after = after_measurement(meter, time, flags, codes, made);
+            return host_done(after, mark, 0, reading);
+        }
     }
 }

@@ -14,11 +14,25 @@ measuring-in-requires c κs = search needs
 frame-requires : tie.Need-frame-requires
 frame-requires c κs = search needs
 
+ring-after-requires : tie.Need-ring-after-requires
+ring-after-requires c κs = search needs
+
 with-measuring-requires : tie.Need-with-measuring-requires
 with-measuring-requires c κs = search needs
 
 returns : tie.Need-returns
-returns c = simp (c .before .with-measuring .ensures, c .before .before .frame .ensures, c .before .before .before .measuring-in .ensures, c .before .before .before .before .instrument-in .ensures, toZ-ofZ w32 (c .before .before .before .before .before .args .ad1) (c .before .before .before .before .before .fits .ad1), toZ-ofZ w32 (c .before .before .before .before .before .args .lpf) (c .before .before .before .before .before .fits .lpf), toZ-ofZ w64 (c .before .before .before .before .before .args .rms) (c .before .before .before .before .before .fits .rms))
+returns c =
+    let start = c .before .before .before .before .before .before in
+    simp (
+      c .before .with-measuring .ensures,
+      c .before .before .ring-after .ensures,
+      c .before .before .before .frame .ensures,
+      c .before .before .before .before .measuring-in .ensures,
+      c .before .before .before .before .before .instrument-in .ensures,
+      toZ-ofZ w32 (start .args .ad1) (start .fits .ad1),
+      toZ-ofZ w32 (start .args .lpf) (start .fits .lpf),
+      toZ-ofZ w64 (start .args .rms) (start .fits .rms),
+    )
 
 pub leaf-frame-spec : {M : Type 1} → statement M
 leaf-frame-spec =
@@ -27,5 +41,6 @@ leaf-frame-spec =
     instrument-in-requires
     measuring-in-requires
     frame-requires
+    ring-after-requires
     with-measuring-requires
     returns)

@@ -1,5 +1,5 @@
 -- Field by field.
-use Rattle.meter.specs.Frame.{basisAfter}
+use Rattle.meter.specs.Divided.{basisAfter}
 use borrow.Author.Needs.{needs}
 use Rattle.meter.proofs.frame.basis_after.Statement.{statement}
 use Rattle.meter.proofs.frame.basis_after.Tie as tie

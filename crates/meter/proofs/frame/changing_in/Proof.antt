@@ -1,5 +1,5 @@
 -- Field by field.
-use Rattle.meter.specs.Frame.{changing}
+use Rattle.meter.specs.Divided.{changing}
 use borrow.Author.Needs.{needs}
 use Rattle.meter.proofs.frame.changing_in.Statement.{statement}
 use Rattle.meter.proofs.frame.changing_in.Tie as tie

@@ -1,6 +1,6 @@
 -- By the two tests.
 use mathlib.Core.Path.{_∙_}
-use Rattle.meter.specs.Frame.{entry}
+use Rattle.meter.specs.Divided.{entry}
 use borrow.Author.Needs.{needs}
 use Rattle.meter.proofs.frame.entry.Statement.{statement}
 use Rattle.meter.proofs.frame.entry.Tie as tie

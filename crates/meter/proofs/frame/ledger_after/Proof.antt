@@ -1,5 +1,5 @@
 -- Field by field.
-use Rattle.meter.specs.Frame.{ledgerAfter}
+use Rattle.meter.specs.Divided.{ledgerAfter}
 use borrow.Author.Needs.{needs}
 use Rattle.meter.proofs.frame.ledger_after.Statement.{statement}
 use Rattle.meter.proofs.frame.ledger_after.Tie as tie

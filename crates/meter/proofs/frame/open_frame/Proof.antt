@@ -1,5 +1,5 @@
 -- By the time, then by the length.
-use Rattle.meter.specs.Frame.{openFrame}
+use Rattle.meter.specs.Divided.{openFrame}
 use mathlib.Core.Path.{_∙_}
 use borrow.Author.Needs.{needs}
 use Rattle.meter.proofs.frame.open_frame.Statement.{statement}

@@ -1,7 +1,7 @@
 -- The callees; by whether the accounting is full.
 use mathlib.Core.Path.{ap, _∙_}
 use Rattle.values.specs.Vals.{loadOf}
-use Rattle.meter.specs.Frame.{readBy, readEntry}
+use Rattle.meter.specs.Divided.{readBy, readEntry}
 use Rattle.meter.proofs.Entered.{read-full, read-done}
 use borrow.Author.Needs.{needs}
 use Rattle.meter.proofs.frame.read.Statement.{statement}

@@ -1,13 +1,8 @@
 -- By the mark.
 use borrow.Author.Needs.{needs}
-use mir.Syntax.{w32}
-use mir.ValLaws.{toZ-ofZ}
 use Rattle.paths.specs.Dc.{dcIResult}
 use Rattle.paths.proofs.dc.dc_i_result.Statement.{statement}
 use Rattle.paths.proofs.dc.dc_i_result.Tie as tie
-
-note-current-requires : tie.Need-note-current-requires
-note-current-requires c κs = search needs
 
 measured-in-requires : tie.Need-measured-in-requires
 measured-in-requires c κs = search needs
@@ -26,22 +21,21 @@ ranged-to-requires c κs = search needs
 
 returns : tie.Need-returns
 unfolding dcIResult
-returns c = let if1 = simp (c .before .before .autorange .ensures, c .before .before .before .with-measured .ensures, c .before .before .before .before .dc-i-taken .ensures, c .before .before .before .before .before .measured-in .ensures, c .before .before .before .before .before .before .note-current .ensures, toZ-ofZ w32 (c .before .before .before .before .before .before .before .before .args .codes .ad1) (record { sfits = c .before .before .before .before .before .before .before .struct-told .given .0 .1 })) at (c .before .if1 .taken) in
-    simp (c .ranged-to .ensures, c .before .before .autorange .ensures, c .before .before .before .with-measured .ensures, c .before .before .before .before .dc-i-taken .ensures, c .before .before .before .before .before .measured-in .ensures, c .before .before .before .before .before .before .note-current .ensures, if1, toZ-ofZ w32 (c .before .before .before .before .before .before .before .before .args .codes .ad1) (record { sfits = c .before .before .before .before .before .before .before .struct-told .given .0 .1 }))
+returns c = let if1 = simp (c .before .before .autorange .ensures, c .before .before .before .with-measured .ensures, c .before .before .before .before .dc-i-taken .ensures, c .before .before .before .before .before .measured-in .ensures) at (c .before .if1 .taken) in
+    simp (c .ranged-to .ensures, c .before .before .autorange .ensures, c .before .before .before .with-measured .ensures, c .before .before .before .before .dc-i-taken .ensures, c .before .before .before .before .before .measured-in .ensures, if1)
 
 goes-on-requires : tie.Need-goes-on-requires
 goes-on-requires c κs = search needs
 
 returns-2 : tie.Need-returns-2
 unfolding dcIResult
-returns-2 c = let if1 = simp (c .before .before .autorange .ensures, c .before .before .before .with-measured .ensures, c .before .before .before .before .dc-i-taken .ensures, c .before .before .before .before .before .measured-in .ensures, c .before .before .before .before .before .before .note-current .ensures, toZ-ofZ w32 (c .before .before .before .before .before .before .before .before .args .codes .ad1) (record { sfits = c .before .before .before .before .before .before .before .struct-told .given .0 .1 })) at (c .before .if1 .left) in
-    simp (c .goes-on .ensures, c .before .before .autorange .ensures, c .before .before .before .with-measured .ensures, c .before .before .before .before .dc-i-taken .ensures, c .before .before .before .before .before .measured-in .ensures, c .before .before .before .before .before .before .note-current .ensures, if1, toZ-ofZ w32 (c .before .before .before .before .before .before .before .before .args .codes .ad1) (record { sfits = c .before .before .before .before .before .before .before .struct-told .given .0 .1 }))
+returns-2 c = let if1 = simp (c .before .before .autorange .ensures, c .before .before .before .with-measured .ensures, c .before .before .before .before .dc-i-taken .ensures, c .before .before .before .before .before .measured-in .ensures) at (c .before .if1 .left) in
+    simp (c .goes-on .ensures, c .before .before .autorange .ensures, c .before .before .before .with-measured .ensures, c .before .before .before .before .dc-i-taken .ensures, c .before .before .before .before .before .measured-in .ensures, if1)
 
 pub dc-i-result-spec : {M : Type 1} → statement M
 dc-i-result-spec =
     tie.close
     (tie.spec
-    note-current-requires
     measured-in-requires
     dc-i-taken-requires
     with-measured-requires
