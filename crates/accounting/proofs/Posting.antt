@@ -9,7 +9,8 @@ use Rattle.state.specs.declared.Pw.{Pw}
 use Rattle.values.specs.Methods.{alternating}
 use Rattle.accounting.specs.declared.AccountAnswer.{AccountAnswer}
 use Rattle.accounting.specs.declared.LedgerAnswer.{LedgerAnswer}
-use Rattle.accounting.specs.Account.{counted, countedOf, accountBy, account, ledgerIn, withLedger, postedBy, posted}
+use Rattle.accounting.specs.Account.{counted, accountBy, account}
+use Rattle.accounting.specs.Divided.{countedOf, ledgerIn, withLedger, postedBy, posted}
 
 abbrev pub answerOf : Pw → LedgerAnswer → AccountAnswer
 answerOf m b = record { full = b .full; pw = withLedger m (b .ledger) }

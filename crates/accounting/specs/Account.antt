@@ -9,7 +9,6 @@ use Rattle.figures.specs.declared.tally.Tally.{Tally}
 use Rattle.figures.specs.declared.tally.Accounted.{Accounted}
 use Rattle.figures.specs.declared.tally.Accounted.the-variants.{Counted, Full}
 use Rattle.figures.specs.Tally.{accountingStep}
-use Rattle.state.specs.declared.Clock.{Clock}
 use Rattle.state.specs.declared.Powers.{Powers}
 use Rattle.state.specs.declared.Pw.{Pw}
 use Rattle.state.specs.declared.Stamp.{Stamp}
@@ -18,8 +17,6 @@ use Rattle.state.specs.Counting.{elapsed}
 use Rattle.phase.specs.Phase.{calAccounted}
 use Rattle.values.specs.Methods.{alternating}
 use Rattle.accounting.specs.declared.AccountAnswer.{AccountAnswer}
-use Rattle.accounting.specs.declared.Ledger.{Ledger}
-use Rattle.accounting.specs.declared.LedgerAnswer.{LedgerAnswer}
 
 -- `if run { if let Some(t) = t_last { .. } }`: the interval from the last accounted frame, at `p_tot` and `s_last`; the active energy counts where `!alt || dc`
 unfoldable pub counted : Pw → ℕ → Accounted
@@ -27,13 +24,6 @@ counted m now =
     cond (m .clock .run && m .clock .«t_last» .set)
     (accountingStep (m .tally) (elapsed now (m .clock .«t_last» .at)) (m .powers .«p_tot») (m .powers .«s_last») (not (alternating (m .mode))))
     (Counted (m .tally) (pos 0))
-
--- the same of its parts: `active` is whether the active energy counts
-unfoldable pub countedOf : Tally → Clock → Powers → Bool → ℕ → Accounted
-countedOf t c p active now =
-    cond (c .run && c .«t_last» .set)
-    (accountingStep t (elapsed now (c .«t_last» .at)) (p .«p_tot») (p .«s_last») active)
-    (Counted t (pos 0))
 
 -- `t_last = Some(now)`, and `None` while stopped
 unfoldable pub lastTime : Bool → ℕ → Stamp
@@ -86,57 +76,3 @@ accountBy m load now Full = record { full = true; pw = m }
 -- `load`: of the values before the accounting, the source's `pv`
 unfoldable pub account : Pw → Figures → ℕ → AccountAnswer
 account m load now = accountBy m load now (counted m now)
-
--- what the accounting changes of a meter, and a meter with that changed
-abbrev pub ledgerIn : Pw → Ledger
-ledgerIn m =
-    record {
-      tally = m .tally;
-      clock = m .clock;
-      powers = m .powers;
-      «over_t0» = m .«over_t0»;
-      «phase_cal» = m .«phase_cal»;
-      «cal_req» = m .mode .«cal_req»;
-    }
-
-abbrev pub withLedger : Pw → Ledger → Pw
-withLedger m b =
-    record {
-      description = m .description;
-      calibration = m .calibration;
-      mode = record { on = m .mode .on; alt = m .mode .alt; coup = m .mode .coup; dc = m .mode .dc; «cal_req» = b .«cal_req» };
-      ranges = m .ranges;
-      barred = m .barred;
-      cycle = m .cycle;
-      parts = m .parts;
-      powers = b .powers;
-      tally = b .tally;
-      clock = b .clock;
-      «over_t0» = b .«over_t0»;
-      settings = m .settings;
-      «phase_cal» = b .«phase_cal»;
-      corrections = m .corrections;
-      job = m .job;
-      comparator = m .comparator;
-      ring = m .ring;
-    }
-
--- the ledger after the accounting: proofs/Posting.antt says that `account` is this
-abbrev pub postedTo : Ledger → Tally → Float → Figures → ℕ → Ledger
-postedTo b t iCont load now =
-    let c = calAccounted (b .«phase_cal») (b .«cal_req») in
-    record {
-      tally = t;
-      clock = record { run = b .clock .run; «t_last» = lastTime (b .clock .run) now; «t_poll» = b .clock .«t_poll» };
-      powers = powersOf load;
-      «over_t0» = overSince (b .«over_t0») (load .i) iCont now;
-      «phase_cal» = c .«phase_cal»;
-      «cal_req» = c .«cal_req»;
-    }
-
-abbrev pub postedBy : Ledger → Float → Figures → ℕ → Accounted → LedgerAnswer
-postedBy b iCont load now (Counted t w) = record { full = false; ledger = postedTo b t iCont load now }
-postedBy b iCont load now Full = record { full = true; ledger = b }
-
-unfoldable pub posted : Ledger → Bool → Float → Figures → ℕ → LedgerAnswer
-posted b active iCont load now = postedBy b iCont load now (countedOf (b .tally) (b .clock) (b .powers) active now)

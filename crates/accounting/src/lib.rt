@@ -1,7 +1,8 @@
 // The accounting of a reading, the source's `pw_account`: the interval up to it is counted at the powers
 // of the reading before, and it gives the powers of the next.
 ghost use mathlib.Core.Path.{_≡_};
-ghost use Rattle.accounting.specs.Account.{countedOf, lastTime, finiteOrZero, powersOf, overSince, posted};
+ghost use Rattle.accounting.specs.Account.{lastTime, finiteOrZero, powersOf, overSince};
+ghost use Rattle.accounting.specs.Divided.{countedOf, posted};
 use figures::load::Figures;
 use figures::tally::Accounted;
 use figures::tally::Tally;

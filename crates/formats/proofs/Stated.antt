@@ -10,7 +10,6 @@ use Rattle.numbers.proofs.Cases.{either}
 use Rattle.figures.specs.Acc.{thousand}
 use Rattle.figures.specs.Tally.{milli}
 use Rattle.formats.specs.declared.units.Unit.{Unit}
-use Rattle.formats.specs.declared.units.Unit.the-variants.{Watt, Milliwatt, Kilowatt, VoltAmpere, MillivoltAmpere, KilovoltAmpere, WattHour, MilliwattHour, KilowattHour, VoltAmpereHour, KilovoltAmpereHour}
 use Rattle.formats.specs.declared.format.Format.{Format}
 use Rattle.formats.specs.Formats.{ten, hundred, nineThousand, hundredThousand, fullScaleMargin, decimalsOf, scaled, energyAt, energyFormat, rangeFormat, pFormat}
 use Rattle.formats.specs.Readout.{valOf, overVal, tens, half, noNegZero, shown, shownUnless}

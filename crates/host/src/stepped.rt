@@ -2,7 +2,7 @@
 ghost use mathlib.Core.Path.{_≡_};
 ghost use Rattle.orders.specs.Answer.{refusedWith};
 ghost use Rattle.meter.specs.Frame.{frameDone};
-ghost use Rattle.host.specs.Stepped.{askOf, noReading, hostRead, hostStep, hostMade};
+ghost use Rattle.host.specs.Stepped.{askOf, hostRead, hostStep, hostMade};
 use crate::shown::HostReadouts;
 use crate::shown::HostVal;
 use crate::shown::host_readouts;

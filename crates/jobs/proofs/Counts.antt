@@ -8,6 +8,7 @@ use borrow.Author.Tests.{ltb-true, ltb-false, eqb-true, lt-ltb}
 use lib.Dec.{ltb, eqb}
 use lib.IntN.{ℤ}
 use lib.Ieee.{Float}
+use Rattle.numbers.proofs.Cases.{either-by}
 use Rattle.codes.specs.declared.Codes.{Codes}
 use Rattle.tables.specs.Constants.{jobN, jrOk, jrSignal, jrSmall, jrBig, jrUnstable, jrRange}
 use Rattle.tables.specs.declared.calibration.Calibration.{Calibration}
@@ -129,11 +130,6 @@ most-of Zero dc s h = grows zeroSteps (suc s) 13 (omega arith)
 most-of Gain true s h = omega (arith, grows dcSteps (suc s) 4 (omega arith))
 most-of Gain false s h = grows acSteps (suc s) 4 (omega arith)
 
--- one of two answers by a test, of which each may use how it came out
-by-test : {A : Type 0} (P : A → Type 0) (t : Bool) {x y : A} → (t ≡ true → P x) → (t ≡ false → P y) → P (cond t x y)
-by-test P true f g = f refl
-by-test P false f g = g refl
-
 -- ---- the end of a step
 
 -- a step is done: all its frames are used
@@ -150,8 +146,8 @@ module _ (now : ℕ) where
   zero-done-kept z b d =
       let s = b .job .«job_step» in
       let goes : s < 12 → s < lastOf (layoutIn (b .job)) = λ h. subst (λ (k : Kind). s < lastOf (layoutOf k (b .job .«job_dc»))) (sym (d .0)) h in
-      by-test (Kept 52) (ltb s 6) (λ t. next-kept now 52 (zxNoted z b) (d .1) (goes (omega (arith, ltb-true s 6 t))))
-      (λ f. by-test (Kept 52) (ltb s 12) (λ t. next-kept now 52 (zdNoted z b) (d .1) (goes (ltb-true s 12 t))) (λ g. ended-kept now 52 (zerosStored z b) jrOk (done-most Zero b d)))
+      either-by (Kept 52) (ltb s 6) (λ t. next-kept now 52 (zxNoted z b) (d .1) (goes (omega (arith, ltb-true s 6 t))))
+      (λ f. either-by (Kept 52) (ltb s 12) (λ t. next-kept now 52 (zdNoted z b) (d .1) (goes (ltb-true s 12 t))) (λ g. ended-kept now 52 (zerosStored z b) jrOk (done-most Zero b d)))
 
   -- raw steps are 0 and 2
   raw-before-last : (s : ℕ) → s ≤ 3 → s % 2 ≡ 0 → s < 3
@@ -210,10 +206,10 @@ module _ (now : ℕ) where
       let s = b .job .«job_step» in
       let dc = cond (eqb s 0) (isDc x y) (b .job .«job_dc») in
       let n = raw-done x y dc b (kind-fixed s (isDc x y) (b .job .«job_dc»)) d in
-      by-test (Kept 22) (eqb (s % 2) 0)
+      either-by (Kept 22) (eqb (s % 2) 0)
       (λ t. raw-kept (rawVerdict dc (b .ranges .vr) x y) (rawNoted dc x y b) n
       (subst (λ (l : ℕ). s < l) (sym (to-last (rawNoted dc x y b) (d .0))) (raw-before-last s (subst (λ (l : ℕ). s ≤ l) (to-last b (d .0)) (d .2)) (eqb-true (s % 2) 0 t))))
-      (λ f. by-test (Kept 22) (ltb s 3) (λ t. next-kept now 22 (refNoted x b) (d .1) (subst (λ (l : ℕ). s < l) (sym (to-last b (d .0))) (ltb-true s 3 t)))
+      (λ f. either-by (Kept 22) (ltb s 3) (λ t. next-kept now 22 (refNoted x b) (d .1) (subst (λ (l : ℕ). s < l) (sym (to-last b (d .0))) (ltb-true s 3 t)))
       (λ g. gain-kept (verdictIn (refNoted x b)) (refNoted x b) d))
 
   step-done-kept : (k : Kind) (x y : Float) (b : Bench) → Done k b → Kept (mostOf k) (stepDone now k x y b)
@@ -272,10 +268,10 @@ module _ (now : ℕ) (t : Bench) (p : Placed t) where
   pub ready-kept : (sig : Bool) (r : Reading) → Kept most (servedBy now sig r (oneUsed t))
   unfolding servedBy counted kindIn
   ready-kept sig r =
-      by-test (Kept most) (ltb 0 (t .cycle .skip)) (λ d. inl (drops-kept (ltb-true 0 (t .cycle .skip) d)))
+      either-by (Kept most) (ltb 0 (t .cycle .skip)) (λ d. inl (drops-kept (ltb-true 0 (t .cycle .skip) d)))
       (λ d. let z = ltb-false 0 (t .cycle .skip) d in
-      by-test (Kept most) sig (λ g. signal-kept z)
-      (λ g. by-test (Kept most) (ltb (countUp (t .job .«job_n»)) jobN) (λ l. inl (counts-kept r (ltb-true (countUp (t .job .«job_n»)) 3 l)))
+      either-by (Kept most) sig (λ g. signal-kept z)
+      (λ g. either-by (Kept most) (ltb (countUp (t .job .«job_n»)) jobN) (λ l. inl (counts-kept r (ltb-true (countUp (t .job .«job_n»)) 3 l)))
       (λ l. let s = summed r (oneUsed t) in step-done-kept now (kindIn (t .job)) (meanOf (s .job .«job_a»)) (meanOf (s .job .«job_b»)) s (third-done r z (ltb-false (countUp (t .job .«job_n»)) 3 l)))))
 
 -- a frame in a job, ready or not: the count stays that of the job's place, and a job that it ends has used at most 52 ready frames, or 22
@@ -283,7 +279,7 @@ pub frame-counts : (now : ℕ) (c : Calibration) (flags : ℕ) (f : Codes) (t : 
     → let b = jobFrame now c flags f t .bench in Placed b ⊎ ((b .job .job ≡ 0) × (b .job .used ≤ mostOf (kindIn (t .job))))
 unfolding jobFrame served
 frame-counts now c flags f t p =
-    by-test (Kept (mostOf (kindIn (t .job)))) (ready (placeIn (t .job)) flags) (λ e. ready-kept now t p _ _) (λ e. inl p)
+    either-by (Kept (mostOf (kindIn (t .job)))) (ready (placeIn (t .job)) flags) (λ e. ready-kept now t p _ _) (λ e. inl p)
 
 -- and while it runs: fewer
 pub runs-below : (t : Bench) → Placed t → t .job .used < mostOf (kindIn (t .job))

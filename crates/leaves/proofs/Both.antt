@@ -1,5 +1,5 @@
 -- Two tests that agree with two others, taken together.
-use mathlib.Core.Path.{_≡_, refl, ap, _∙_}
+use mathlib.Core.Path.{_≡_, ap, _∙_}
 use mathlib.Core.Bool.{Bool, _&&_}
 
 pub both : {a b x y : Bool} → a ≡ x → b ≡ y → (a && b) ≡ (x && y)

@@ -8,7 +8,6 @@ use lib.ListN.{getD}
 use lib.Ieee.{binary32, ofBits, eq, nan}
 use mir.Syntax.{Width, w8, w16, w32, w64}
 use mir.Val.{ofZ}
-use Rattle.figures.specs.declared.acc.Acc.{Acc}
 use Rattle.figures.specs.declared.tally.Tally.{Tally}
 use Rattle.tables.specs.declared.calibration.Calibration.{Calibration}
 use Rattle.tables.specs.declared.description.Description.{Description}

@@ -1,6 +1,6 @@
 -- A frame by parts is the frame of the definitions: the accounting changes the ledger alone, the values look at nothing else that it changes, and `cal_req` at nothing.
 use mathlib.Core.Path.{_≡_, refl, sym, ap, _∙_}
-use mathlib.Core.Bool.{Bool, true, false, not, cond, _&&_}
+use mathlib.Core.Bool.{Bool, true, false, not, cond}
 use mathlib.Core.List.{List}
 use Prim.Native.Nat.{ℕ}
 use lib.Dec.{eqb}
@@ -12,33 +12,32 @@ use Rattle.codes.specs.Frame.{decoded}
 use Rattle.state.specs.declared.Pw.{Pw}
 use Rattle.state.specs.declared.Stamp.{Stamp}
 use Rattle.values.specs.declared.power_vals.PowerVals.{PowerVals}
-use Rattle.orders.specs.declared.answer.Reading.{Reading}
 use Rattle.values.specs.declared.vals.Vals.the-variants.{NoValues, Measured}
 use Rattle.values.specs.Methods.{alternating, simultaneous, acOnly, acDc}
 use Rattle.values.specs.Methods as methods
 use Rattle.values.specs.declared.vals.Basis.{Basis}
 use Rattle.figures.specs.declared.load.Figures.{Figures}
-use Rattle.orders.specs.declared.answer.Reading.the-variants.{NoReading, Read}
+use Rattle.orders.specs.declared.answer.Reading.the-variants.{NoReading}
 use Rattle.values.specs.Floors.{usedParts}
 use Rattle.values.specs.Load.{loadFigures, split}
 use Rattle.values.specs.Marks.{limits, limitsOf, dcIsBetter, acIsMissed, hint, frequency}
-use Rattle.values.specs.Vals.{inForce, inForceOf, dcVolts, dcAmperes, values, pwVals, basisIn, loadOf, valuesOf}
+use Rattle.values.specs.Vals.{inForce, dcVolts, dcAmperes, values, pwVals}
+use Rattle.values.specs.Divided.{inForceOf, basisIn, loadOf, valuesOf}
 use Rattle.accounting.specs.declared.AccountAnswer.{AccountAnswer}
 use Rattle.accounting.specs.declared.Ledger.{Ledger}
 use Rattle.accounting.specs.declared.LedgerAnswer.{LedgerAnswer}
-use Rattle.accounting.specs.Account.{account, posted, ledgerIn, withLedger}
-use Rattle.accounting.proofs.Posting.{answerOf, account-posted}
+use Rattle.accounting.specs.Account.{account}
+use Rattle.accounting.specs.Divided.{posted, ledgerIn, withLedger}
+use Rattle.accounting.proofs.Posting.{account-posted}
 use Rattle.orders.specs.declared.answer.Step.{Step}
 use Rattle.orders.specs.Answer.{late, refusedWith, marked}
 use Rattle.paths.specs.Frame as path
 use Rattle.paths.specs.Whole.{instrumentIn, measuringIn, withMeasuring, withOutcome}
-use Rattle.meter.specs.declared.frame.PathEnd.{PathEnd}
 use Rattle.meter.specs.declared.frame.Entered.{Entered}
 use Rattle.meter.specs.declared.frame.Measurement.{Measurement}
-use Rattle.meter.specs.declared.frame.Opened.{Opened}
 use Rattle.meter.specs.declared.frame.Opened.the-variants.{Turned, InJob, Outside}
-use Rattle.meter.specs.Frame.{readingBy, readingOf, frameDone, accountedStep, read, valuedBy, valued, framed, measuredBy, measured, withPoll, inJob, taken, pollBy, poll}
-use Rattle.meter.specs.Divided.{changing, readingWith, readBy, readEntry, noEntry, entry, basisAfter, ledgerAfter, measurement, afterMeasurement, measuredStep, openWith, openBy, openFrame, pollOpened}
+use Rattle.meter.specs.Frame.{readingBy, readingOf, frameDone, accountedStep, read, valuedBy, valued, framed, measured, withPoll, inJob, taken, pollBy, poll}
+use Rattle.meter.specs.Divided.{changing, readingWith, readBy, readEntry, noEntry, entry, basisAfter, ledgerAfter, measurement, afterMeasurement, measuredStep, openBy, openFrame, pollOpened}
 
 -- the values of a meter with another ledger
 values-of-ledger : (n : Pw) (b : Ledger) → values (withLedger n b) ≡ valuesOf (basisIn n) (loadOf (basisIn n)) (changing b)

@@ -6,7 +6,7 @@ use mathlib.Core.List.{List}
 use Prim.Native.Nat.{ℕ}
 use lib.Dec.{eqb}
 use lib.ListN.{length}
-use Rattle.numbers.proofs.Cases.{either}
+use Rattle.numbers.proofs.Cases.{either, by-test}
 use Rattle.refusals.specs.declared.Refusal.{Refusal}
 use Rattle.refusals.specs.declared.Refusal.the-variants as refusal
 use Rattle.refusals.specs.Number.{refusalNumber}
@@ -51,7 +51,6 @@ use Rattle.meter.specs.Making.{notMade, refuses, make}
 use Rattle.meter.specs.Frame.{accountedStep, read, valuedBy, valued, framed, measured, polledStep, inJob, taken, pollBy, poll}
 use Rattle.meter.specs.Calls.{step, Call, On, Off, Method, SetRanges, Coupling, ZeroJob, GainJob, PhaseStart, EnergyReset, Run, Reapply, Frame}
 use Rattle.meter.specs.Table.{codesOf}
-use Rattle.meter.proofs.Table.{by-test}
 
 -- ---- the orders, each by how it can end
 

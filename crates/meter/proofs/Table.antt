@@ -6,7 +6,7 @@ use Prim.Native.Nat.{ℕ, _<_}
 use native.Mathlib.Omega.{arith}
 use lib.Dec.{eqb}
 use lib.ListN.{length}
-use Rattle.numbers.proofs.Cases.{either}
+use Rattle.numbers.proofs.Cases.{either, by-test}
 use Rattle.refusals.specs.declared.Refusal.{Refusal}
 use Rattle.refusals.specs.declared.Refusal.the-variants as refusal
 use Rattle.refusals.specs.Number.{refusalNumber}
@@ -34,11 +34,6 @@ use Rattle.meter.specs.declared.frame.PathEnd.{PathEnd}
 use Rattle.meter.specs.Frame.{accountedStep, read, valuedBy, valued, framed, measuredBy, measured, inJob, taken, pollBy, poll}
 use Rattle.meter.specs.Calls.{step, Call, On, Off, Method, SetRanges, Coupling, ZeroJob, GainJob, PhaseStart, EnergyReset, Run, Reapply, Frame}
 use Rattle.meter.specs.Table.{codesOf, lateWhen, frameRefused, offWhen, busyWhen, methodWhen, fullRefused, fullBy, fullEnd, named, refusalOf, turnedAway, leftBy, aloneBy}
-
--- by a test, with what it gave
-pub by-test : (P : Bool → Type 0) (b : Bool) → (b ≡ true → P true) → (b ≡ false → P false) → P b
-by-test P true f g = f refl
-by-test P false f g = g refl
 
 -- ---- one row of the table at a time
 

@@ -3,7 +3,6 @@ use mathlib.Core.Bool.{Bool}
 use mathlib.Core.List.{List, [], _∷_}
 use Prim.Native.Nat.{ℕ}
 use Rattle.state.specs.declared.Pw.{Pw}
-use Rattle.steps.specs.declared.place.Kind.{Kind}
 use Rattle.steps.specs.declared.place.Kind.the-variants.{Zero, Gain}
 use Rattle.orders.specs.declared.answer.Step.{Step}
 use Rattle.orders.specs.declared.ranges.Ask.{Ask}

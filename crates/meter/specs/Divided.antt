@@ -19,11 +19,11 @@ use Rattle.values.specs.declared.vals.Basis.{Basis}
 use Rattle.values.specs.declared.vals.Changing.{Changing}
 use Rattle.values.specs.Methods.{alternating}
 use Rattle.values.specs.Methods as methods
-use Rattle.values.specs.Vals.{loadOf, valuesOf}
+use Rattle.values.specs.Divided.{loadOf, valuesOf}
 use Rattle.readouts.specs.Readings.{readingVals}
 use Rattle.accounting.specs.declared.Ledger.{Ledger}
 use Rattle.accounting.specs.declared.LedgerAnswer.{LedgerAnswer}
-use Rattle.accounting.specs.Account.{posted, withLedger}
+use Rattle.accounting.specs.Divided.{posted, withLedger}
 use Rattle.orders.specs.declared.answer.Reading.{Reading}
 use Rattle.orders.specs.declared.answer.Reading.the-variants.{NoReading, Read}
 use Rattle.orders.specs.declared.answer.Step.{Step}

@@ -2,7 +2,7 @@
 // reading.
 ghost use mathlib.Core.Path.{_≡_};
 ghost use Rattle.paths.specs.Whole.{withMeasuring};
-ghost use Rattle.accounting.specs.Account.{withLedger};
+ghost use Rattle.accounting.specs.Divided.{withLedger};
 ghost use Rattle.meter.specs.Frame.{measured, inJob, poll};
 ghost use Rattle.meter.specs.Divided.{changing, readEntry, entry, basisAfter, ledgerAfter, measurement, afterMeasurement, openWith, openFrame};
 use accounting::Ledger;

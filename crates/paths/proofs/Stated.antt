@@ -35,7 +35,7 @@ use Rattle.paths.specs.declared.measuring.Measuring.{Measuring}
 use Rattle.paths.specs.declared.measuring.Outcome.{Outcome}
 use Rattle.paths.specs.declared.ring.Raw.{Raw}
 use Rattle.paths.specs.Ring.{noted, noteResult, noteCurrent, resultStat, isDropped, ringAfter}
-use Rattle.paths.specs.Measuring.{ends, goesOn, withSkip, withSkipY, withTaken, withCycle, withAd1, measuredIn, withMeasured, rangingIn, autorange, rangedTo}
+use Rattle.paths.specs.Measuring.{ends, goesOn, withSkip, withSkipY, withTaken, withCycle, measuredIn, withMeasured, rangingIn, autorange, rangedTo}
 use Rattle.paths.specs.MethodB.{advanced, bUnranged, bNext}
 use Rattle.paths.specs.Alternating.{switched, altPhaseDone, altNext}
 use Rattle.paths.specs.Dc.{dcVAfter, dcVResult, dcVPart, dcIAfter, dcIResult, dcIPart, dcFrame}

@@ -6,17 +6,15 @@ use Prim.Native.Nat.{ℕ, zero, suc, _-_, _≤_}
 use native.Mathlib.Omega.{arith}
 use lib.Dec.{eqb}
 use lib.Ieee.{Float}
-use Rattle.numbers.specs.Binary32.{_*f_, zeroF, oneF, isFinite, signumOf}
+use Rattle.numbers.specs.Binary32.{_*f_, zeroF, isFinite, signumOf}
 use Rattle.numbers.proofs.Cases.{either}
 use Rattle.tables.specs.Bounds.{atMost}
-use Rattle.tables.specs.Calibration.{million}
 use Rattle.tables.specs.Constants.{mainP, mainWh, mainVah}
 use Rattle.tables.specs.Ranges.{iuIr}
-use Rattle.figures.specs.Acc.{thousand}
 use Rattle.formats.specs.declared.format.Format.{Format}
 use Rattle.formats.specs.declared.readout.Val.{Val}
 use Rattle.formats.specs.declared.units.Unit.{Unit}
-use Rattle.formats.specs.declared.units.Unit.the-variants.{Volt, Ampere, Milliampere, Microampere, Milliwatt, Kilowatt, Millivolt}
+use Rattle.formats.specs.declared.units.Unit.the-variants.{Volt, Milliwatt, Kilowatt}
 use Rattle.formats.specs.Units.{sameUnit}
 use Rattle.formats.specs.Formats.{energyFormat, pFormat}
 use Rattle.formats.specs.Readout.{valOf, overVal, tens, shown, shownUnless}

@@ -1,7 +1,7 @@
 -- What follows from the definitions: when there are values, and what they say of time, limit and phase.
-use mathlib.Core.Path.{_≡_, refl, ap, sym, subst}
+use mathlib.Core.Path.{_≡_, refl, sym, subst}
 use mathlib.Core.Logic.{_⊎_, inl, inr}
-use mathlib.Core.Bool.{Bool, true, false, cond, _&&_, false≢true}
+use mathlib.Core.Bool.{Bool, true, false, cond, _&&_}
 use Prim.Native.Nat.{ℕ, _-_, _/_, _<_, _≤_}
 use native.Mathlib.Omega.{arith}
 use borrow.Author.Tests.{ltb-true}
@@ -22,9 +22,7 @@ use Rattle.state.specs.Counting.{elapsed}
 use Rattle.state.specs.Fresh.{newPw}
 use Rattle.values.specs.declared.floors.Reached.{Reached}
 use Rattle.values.specs.declared.marks.Countdown.{Countdown}
-use Rattle.values.specs.declared.power_vals.PowerVals.{PowerVals}
-use Rattle.values.specs.declared.vals.Vals.{Vals}
-use Rattle.values.specs.declared.vals.Vals.the-variants.{NoValues, Measured}
+use Rattle.values.specs.declared.vals.Vals.the-variants.{NoValues}
 use Rattle.values.specs.PowerVals.{zeroVals}
 use Rattle.values.specs.Methods.{alternating, measured}
 use Rattle.values.specs.Load.{altFigures, loadFigures}

@@ -5,3 +5,4 @@ pub mod Load
 pub mod Marks
 pub mod Energy
 pub mod Vals
+pub mod Divided

@@ -1,6 +1,7 @@
 // `pw_vals`, `pw_state` and `integrating` of the source: what a whole meter shows.
 ghost use mathlib.Core.Path.{_≡_};
-ghost use Rattle.values.specs.Vals.{inForceOf, dcVolts, dcAmperes, loadOf, valuesOf, basisIn, changingIn, values, pwVals, stateOnly, pwState, integrating};
+ghost use Rattle.values.specs.Vals.{dcVolts, dcAmperes, values, pwVals, stateOnly, pwState, integrating};
+ghost use Rattle.values.specs.Divided.{inForceOf, loadOf, valuesOf, basisIn, changingIn};
 use crate::energy::energies;
 use crate::floors::floors_reached;
 use crate::floors::kept_if;

@@ -1,6 +1,6 @@
 -- Each way by its tests; the interval by the accounting step.
 use borrow.Author.Needs.{needs}
-use Rattle.accounting.specs.Account.{countedOf}
+use Rattle.accounting.specs.Divided.{countedOf}
 use Rattle.accounting.proofs.counted.Statement.{statement}
 use Rattle.accounting.proofs.counted.Tie as tie
 

@@ -1,6 +1,6 @@
 -- By the answer of the interval.
 use borrow.Author.Needs.{needs}
-use Rattle.accounting.specs.Account.{posted}
+use Rattle.accounting.specs.Divided.{posted}
 use Rattle.accounting.proofs.posted.Statement.{statement}
 use Rattle.accounting.proofs.posted.Tie as tie
 

@@ -1,7 +1,5 @@
 -- Each group in its turn.
 use borrow.Author.Needs.{needs}
-use mathlib.Core.Path.{_≡_, refl}
-use mathlib.Core.Bool.{Bool, _&&_}
 use Rattle.leaves.proofs.Both.{both}
 use Rattle.leaves.specs.Numbered.{isBack}
 use Rattle.leaves.proofs.numbered.is_back.Statement.{statement}

@@ -1,7 +1,6 @@
 -- Each group in its turn.
 use borrow.Author.Needs.{needs}
-use mathlib.Core.Path.{_≡_, refl}
-use mathlib.Core.Bool.{Bool, _&&_}
+use mathlib.Core.Path.{refl}
 use Rattle.leaves.proofs.Both.{both}
 use Rattle.leaves.specs.Numbered.{isFront}
 use Rattle.leaves.proofs.numbered.is_front.Statement.{statement}

@@ -2,7 +2,7 @@
 use mathlib.Core.Path.{ap, _∙_}
 use Rattle.state.specs.declared.Ring.{Ring}
 use Rattle.paths.specs.Whole.{withMeasuring}
-use Rattle.accounting.specs.Account.{withLedger}
+use Rattle.accounting.specs.Divided.{withLedger}
 use borrow.Author.Needs.{needs}
 use Rattle.meter.specs.Divided.{afterMeasurement}
 use Rattle.meter.proofs.frame.after_measurement.Statement.{statement}

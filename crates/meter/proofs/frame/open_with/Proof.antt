@@ -1,6 +1,5 @@
 -- By the two tests.
 use borrow.Author.Tests.{not-true, not-false, eq-eqb, ne-eqb}
-use borrow.Author.Needs.{needs}
 use Rattle.meter.proofs.frame.open_with.Statement.{statement}
 use Rattle.meter.proofs.frame.open_with.Tie as tie
 

@@ -1,6 +1,6 @@
 -- The callees; by whether the accounting is full.
 use mathlib.Core.Path.{ap, _∙_}
-use Rattle.values.specs.Vals.{loadOf}
+use Rattle.values.specs.Divided.{loadOf}
 use Rattle.meter.specs.Divided.{readBy, readEntry}
 use Rattle.meter.proofs.Entered.{read-full, read-done}
 use borrow.Author.Needs.{needs}

@@ -1,6 +1,6 @@
 -- Field by field.
 use borrow.Author.Needs.{needs}
-use Rattle.values.specs.Vals.{basisIn}
+use Rattle.values.specs.Divided.{basisIn}
 use Rattle.values.proofs.vals.basis_in.Statement.{statement}
 use Rattle.values.proofs.vals.basis_in.Tie as tie
 

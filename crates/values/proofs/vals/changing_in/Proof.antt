@@ -1,6 +1,6 @@
 -- Field by field.
 use borrow.Author.Needs.{needs}
-use Rattle.values.specs.Vals.{changingIn}
+use Rattle.values.specs.Divided.{changingIn}
 use Rattle.values.proofs.vals.changing_in.Statement.{statement}
 use Rattle.values.proofs.vals.changing_in.Tie as tie
 

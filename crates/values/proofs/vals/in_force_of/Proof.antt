@@ -1,6 +1,6 @@
 -- The callee, field by field.
 use borrow.Author.Needs.{needs}
-use Rattle.values.specs.Vals.{inForceOf}
+use Rattle.values.specs.Divided.{inForceOf}
 use mir.Syntax.{w8}
 use mir.ValLaws.{toZ-ofZ}
 use Rattle.values.proofs.vals.in_force_of.Statement.{statement}

@@ -1,6 +1,6 @@
 -- The callees.
 use borrow.Author.Needs.{needs}
-use Rattle.values.specs.Vals.{loadOf}
+use Rattle.values.specs.Divided.{loadOf}
 use Rattle.values.proofs.vals.load_of.Statement.{statement}
 use Rattle.values.proofs.vals.load_of.Tie as tie
 

@@ -1,7 +1,8 @@
 -- The callees.
 use borrow.Author.Needs.{needs}
 use Rattle.values.specs.PowerVals.{zeroVals}
-use Rattle.values.specs.Vals.{stateOnly, basisIn, inForceOf, inForce}
+use Rattle.values.specs.Vals.{stateOnly, inForce}
+use Rattle.values.specs.Divided.{basisIn, inForceOf}
 use Rattle.values.proofs.vals.state_only.Statement.{statement}
 use Rattle.values.proofs.vals.state_only.Tie as tie
 

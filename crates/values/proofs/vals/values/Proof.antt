@@ -1,6 +1,7 @@
 -- By its parts.
 use borrow.Author.Needs.{needs}
-use Rattle.values.specs.Vals.{values, basisIn, changingIn, inForce, inForceOf, loadOf, valuesOf}
+use Rattle.values.specs.Vals.{values, inForce}
+use Rattle.values.specs.Divided.{basisIn, changingIn, inForceOf, loadOf, valuesOf}
 use Rattle.values.specs.Marks.{limits, limitsOf}
 use Rattle.values.proofs.vals.values.Statement.{statement}
 use Rattle.values.proofs.vals.values.Tie as tie

@@ -1,6 +1,6 @@
 -- The callees.
 use borrow.Author.Needs.{needs}
-use Rattle.values.specs.Vals.{valuesOf}
+use Rattle.values.specs.Divided.{valuesOf}
 use Rattle.values.proofs.vals.values_of.Statement.{statement}
 use Rattle.values.proofs.vals.values_of.Tie as tie
 
