@@ -1,4 +1,4 @@
--- The accounting as the code divides it: on a ledger, the record of what it changes. Nothing here is for a reader to believe: proofs/Posting.antt says that it is `account` of specs/Account.antt.
+-- The accounting as the code divides it: on a ledger, the record of what it changes. The contract of `posted` speaks of it; a reader of the frame call need not believe it: proofs/Posting.antt says that it is `account` of specs/Account.antt.
 use mathlib.Core.Bool.{Bool, true, false, _&&_, cond}
 use Prim.Native.Nat.{ℕ}
 use lib.Ieee.{Float}

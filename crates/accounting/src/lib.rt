@@ -31,7 +31,7 @@ pub struct LedgerAnswer {
     pub ledger: Ledger,
 }
 
-// The meter after the accounting; or full, and the meter as it was.
+// The meter after the accounting; or full, and the meter as it was: the definitions speak of it.
 pub struct AccountAnswer {
     pub full: bool,
     pub pw: Pw,

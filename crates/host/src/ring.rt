@@ -3,7 +3,7 @@ ghost use mathlib.Core.Path.{_≡_};
 ghost use Rattle.host.specs.Ring.{conversion};
 use state::Ring;
 
-// `struct pw_conversion`
+// `struct pw_conversion`: `stat` is R34 in method B, 1 and 2 the alternating voltage and current, 3 and 4 the DC row's.
 #[repr(C)]
 pub struct HostConversion {
     pub found: bool,
@@ -15,7 +15,7 @@ pub struct HostConversion {
 }
 
 // The conversion of this age, the latest being of age 0. None is found of an age of 16 or more, and of one
-// that reaches back before the first.
+// of `ring_k` or more.
 pub fn conversion(ring: Ring, age: u8) -> HostConversion
     ensures { λ r. ⌜ r ≡ conversion ring age ⌝ }
 {

@@ -1,4 +1,4 @@
--- Every call that may change a meter, what one leaves and answers, and what a list of them leaves. Calls that only read are not here. Document 01: "each call gets the meter as the last one left it". The order `settings` is not here yet.
+-- Every call so far that may change a meter, what one leaves and answers, and what a list of them leaves. Calls that only read are not here. Document 01: "each call gets the meter as the last one left it". The order `settings` is not here yet.
 use mathlib.Core.Bool.{Bool}
 use mathlib.Core.List.{List, [], _∷_}
 use Prim.Native.Nat.{ℕ}

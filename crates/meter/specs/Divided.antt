@@ -1,4 +1,4 @@
--- The frame call as the code divides it. Nothing here is for a reader to believe: proofs/Entered.antt says that it is `measured` and `poll` of specs/Frame.antt. What the accounting changes is one record, the ledger, and what is shown is worked out of a basis and of the ledger after it.
+-- The frame call as the code divides it. A reader of `poll`, and of pw_frame in C, need not believe it: proofs/Entered.antt says that it is `measured` and `poll` of specs/Frame.antt. The contracts of `measure`, `after_measurement` and `open_frame` speak of it. What the accounting changes is one record, the ledger, and what is shown is worked out of a basis and of the ledger after the accounting.
 use mathlib.Core.Bool.{Bool, true, false, not, cond, _&&_}
 use mathlib.Core.List.{List}
 use Prim.Native.Nat.{ℕ}
@@ -83,11 +83,12 @@ measurementBy m t o =
 unfoldable pub measurement : Pw → ℕ → ℕ → Codes → Measurement
 measurement m t flags codes = measurementBy m t (path.frame (instrumentIn m) (m .mode) flags codes t (measuringIn m))
 
--- the meter after it, or as it was before the frame where that is full
+-- the meter after it, where it is not full
 unfoldable pub afterMeasurement : Pw → ℕ → ℕ → Codes → Measurement → Pw
 afterMeasurement m t flags codes x =
     withLedger (withMeasuring m (x .measuring) (ringAfter (m .ring) (m .mode) (m .cycle) flags codes t (x .«ad1_taken»))) (x .ledger)
 
+-- `measured` is this of `measurement`: full undoes the whole frame
 abbrev pub measuredStep : Pw → ℕ → ℕ → Codes → Measurement → Step
 measuredStep m t flags codes x =
     cond (x .full) (refusedWith refusal.Full m) (frameDone (afterMeasurement m t flags codes x) (x .mark) 0 (x .reading))

@@ -48,7 +48,7 @@ struct Entered {
 }
 
 // What a frame outside a job comes to: what its path and its accounting change, the mark, the reading, whether
-// an AD1 result was taken; or full.
+// an AD1 result was taken; or full, and then the meter is the one before, and nothing else here is of account.
 pub struct Measurement {
     pub measuring: Measuring,
     pub ledger: Ledger,
@@ -209,7 +209,7 @@ pub fn measure(before: Pw, time: u64, flags: u8, codes: Codes) -> Measurement
     }
 }
 
-// The meter after it, with what the ring notes.
+// The meter after it, where it is not full, with what the ring notes.
 pub fn after_measurement(before: Pw, time: u64, flags: u8, codes: Codes, made: Measurement) -> Pw
     ensures { λ r. ⌜ r ≡ afterMeasurement before time flags codes made ⌝ }
 {

@@ -34,7 +34,7 @@ dcIResult w mode codes now m =
     let after = dcIAfter w codes m in
     unlessRanged after (goesOn after) (autorange w mode false now after)
 
--- where AD1 is ready; one that is taken is noted in the ring, a dropped one is not
+-- where AD1 is ready; one that is taken is marked so, and the ring notes it, a dropped one is not
 unfoldable pub dcIPart : Instrument → Mode → ℕ → Codes → ℕ → Measuring → Outcome
 dcIPart w mode flags codes now m =
     cond (holdsAd1 flags)
@@ -48,7 +48,3 @@ dcAfterV w mode flags codes now v = cond (v .mark .set) v (dcIPart w mode flags 
 unfoldable pub dcFrame : Instrument → Mode → ℕ → Codes → ℕ → Measuring → Outcome
 dcFrame w mode flags codes now m =
     cond (holdsRmsLpf flags) (dcAfterV w mode flags codes now (dcVPart w mode codes now m)) (dcIPart w mode flags codes now m)
-
--- `dcFrame` is `dcAfterV` of this: what the frame comes to before its AD1
-unfoldable pub dcVFirst : Instrument → Mode → ℕ → Codes → ℕ → Measuring → Outcome
-dcVFirst w mode flags codes now m = cond (holdsRmsLpf flags) (dcVPart w mode codes now m) (ends m)

@@ -1,4 +1,4 @@
--- A frame outside a job: `poll_power` of the source without its job and its frequency counter, up to `pw_vals` and `pw_account`.
+-- A frame outside a job: `poll_power` of the source without its job, its ring (specs/Ring.antt) and its frequency counter, up to `pw_vals` and `pw_account`.
 use mathlib.Core.Bool.{cond}
 use Prim.Native.Nat.{ℕ, _-_}
 use lib.Dec.{ltb}
@@ -24,7 +24,7 @@ takeBy w mode codes m =
 abbrev pub nextBy : Instrument → Mode → ℕ → Measuring → Outcome
 nextBy w mode now m = cond (mode .alt) (altNext w mode now m) (bNext w mode now m)
 
--- RMS and LPF being ready. `disc = skip > 0`: a dropped result only counts down
+-- RMS and LPF being ready. `disc = skip > 0`: of a dropped result there is only the count here
 unfoldable pub methodFrame : Instrument → Mode → Codes → ℕ → Measuring → Outcome
 methodFrame w mode codes now m =
     let t = takeBy w mode codes m in

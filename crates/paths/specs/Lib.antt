@@ -4,5 +4,6 @@ pub mod Measuring
 pub mod MethodB
 pub mod Alternating
 pub mod Dc
+pub mod Divided
 pub mod Frame
 pub mod Whole

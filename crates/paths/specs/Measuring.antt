@@ -1,4 +1,4 @@
--- What a frame outside a job may change, and what it answers: rule 1 of docs/ARCHITECTURE.md. It also reads the description, the words, the corrections and the mode; nothing else of the meter is handed to it. What the ring notes follows from the frame and what it answers (specs/Ring.antt).
+-- What the path of a frame outside a job may change, up to `pw_vals`, and what it answers: rule 1 of docs/ARCHITECTURE.md. It also reads the description, the words, the corrections and the mode; nothing else of the meter is handed to it. What the ring notes follows from the frame and what it answers (specs/Ring.antt).
 use mathlib.Core.Bool.{Bool, true, false, cond}
 use Prim.Native.Nat.{ℕ}
 use Rattle.state.specs.declared.Comparator.{Comparator}

@@ -39,7 +39,7 @@ noted r raw =
 abbrev pub atTime : ℕ → Ring → Ring
 atTime now r = record { stat = r .stat; disc = r .disc; rms = r .rms; lpf = r .lpf; dt = r .dt; «ring_k» = r .«ring_k»; «t_res» = now }
 
--- a result of RMS and LPF: `Raw { stat, disc, rms, lpf, dt }`, and `t_res = now`
+-- a result of RMS and LPF: `Raw { stat, disc, rms, lpf, dt }`, and `t_res = now`, the time of the last such result
 unfoldable pub noteResult : Ring → ℕ → ℕ → Bool → Codes → Ring
 noteResult r now stat disc codes =
     atTime now (noted r (record { stat = stat; disc = disc; rms = codes .rms; lpf = codes .lpf; dt = heldDt now (r .«t_res») }))
@@ -48,7 +48,7 @@ noteResult r now stat disc codes =
 unfoldable pub noteCurrent : Ring → ℤ → Ring
 noteCurrent r ad1 = noted r (record { stat = 4; disc = false; rms = pos 0; lpf = ad1; dt = 0 })
 
--- a result's number: `if alt { 1 + (phase & 1) } else { stat }`; in DC coupling `stat: 3`
+-- which result it is: `if alt { 1 + (phase & 1) } else { stat }`; in DC coupling `stat: 3`
 unfoldable pub resultStat : Mode → Cycle → ℕ
 resultStat mode c = cond (mode .dc) 3 (cond (mode .alt) (1 + c .phase % 2) (c .stat))
 

@@ -1,4 +1,4 @@
--- The parts of a whole meter that a frame outside a job reads, and those that it may change.
+-- The parts of a whole meter that the path of a frame outside a job reads, and those that it may change.
 use Prim.Native.Nat.{ℕ}
 use Rattle.codes.specs.declared.Codes.{Codes}
 use Rattle.state.specs.declared.Pw.{Pw}
@@ -45,6 +45,6 @@ withMeasuring m x r =
       ring = r;
     }
 
--- the meter after a frame that ended so, with what its ring notes
+-- the meter after a path that came to o, with what the ring notes; `t_poll` and the accounting come after it
 abbrev pub withOutcome : Pw → ℕ → Codes → ℕ → Outcome → Pw
 withOutcome m flags codes now o = withMeasuring m (o .measuring) (ringAfter (m .ring) (m .mode) (m .cycle) flags codes now (o .«ad1_taken»))

@@ -1,7 +1,8 @@
 // A frame in DC coupling (the source's `pw_poll_dc`): the voltage of RMS and LPF, then the current of
 // AD1. Document 01 takes AD1 from the same frame.
 ghost use mathlib.Core.Path.{_≡_};
-ghost use Rattle.paths.specs.Dc.{dcVResult, dcVPart, dcIResult, dcIPart, dcVFirst, dcFrame};
+ghost use Rattle.paths.specs.Dc.{dcVResult, dcVPart, dcIResult, dcIPart, dcFrame};
+ghost use Rattle.paths.specs.Divided.{dcVFirst};
 use crate::measuring::Measuring;
 use crate::measuring::Outcome;
 use crate::measuring::autorange;

@@ -1,4 +1,4 @@
-// What a frame outside a job may change, and what it answers.
+// What the path of a frame outside a job may change, and what it answers.
 ghost use mathlib.Core.Path.{_≡_};
 ghost use Rattle.paths.specs.Measuring.{ends, goesOn, measuredIn, withMeasured, rangingIn, autorange, rangedTo};
 use ranging::autorange::Ranged;
@@ -15,7 +15,8 @@ use state::Stamp;
 use takes::scales::Instrument;
 use takes::take::Measured;
 
-// The meter's fields that a frame outside a job may change, but for the ring.
+// The meter's fields that the path of a frame outside a job may change, but for the ring. What the accounting
+// changes is not a path's.
 #[repr(C)]
 pub struct Measuring {
     pub ranges: Ranges,
@@ -26,9 +27,9 @@ pub struct Measuring {
     pub comparator: Comparator,
 }
 
-// What stands after the frame, the mark to the host, and whether the source goes on to `pw_vals`; that
-// may still answer none (not all of `seen` marked), and then nothing is accounted; and whether an AD1 result
-// was taken, which the ring notes.
+// What stands after the path, and the mark to the host. Whether the source goes on to `pw_vals`, which may still
+// answer none (not all of `seen` marked), and then nothing is accounted. Whether an AD1 result was taken, which the
+// ring notes.
 #[repr(C)]
 pub struct Outcome {
     pub measuring: Measuring,

@@ -8,8 +8,8 @@ use state::Mode;
 use state::Ring;
 use state::elapsed;
 
-// One conversion: which result it was, whether it was dropped, its codes, and the ms since the RMS and
-// LPF result before it.
+// One conversion: which result it was, whether it was dropped, its codes, and the ms since the last RMS and
+// LPF result, held to 65535, which are 0 for AD1.
 pub struct Raw {
     pub stat: u8,
     pub disc: bool,

@@ -1,4 +1,4 @@
-// The parts of a whole meter that a frame outside a job reads, and those that it may change.
+// The parts of a whole meter that the path of a frame outside a job reads, and those that it may change.
 ghost use mathlib.Core.Path.{_≡_};
 ghost use Rattle.paths.specs.Whole.{instrumentIn, measuringIn, withMeasuring};
 use crate::measuring::Measuring;

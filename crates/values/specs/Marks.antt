@@ -34,18 +34,7 @@ secondsLeft tLim el = cond (ltb el tLim) (record { over = 1; «over_left» = tLi
 unfoldable pub overLimit : Stamp → ℕ → ℕ → Countdown
 overLimit t0 tLim tPoll = cond (t0 .set && ltb 0 tLim) (secondsLeft tLim (overElapsed tPoll (t0 .at))) (record { over = 0; «over_left» = 0 })
 
--- `v_ol`: `hypot(v_ac, v_dc) > over() * V_LIM[vr]`, and `i_ol` alike
-unfoldable pub limits : Pw → Limits
-limits m =
-    let count = overLimit (m .«over_t0») (m .settings .«t_lim») (m .clock .«t_poll») in
-    record {
-      «v_ol» = lt (m .description .over *f entryAt nan vLim (m .ranges .vr)) (hypotOf (m .parts .«v_ac») (m .parts .«v_dc»));
-      «i_ol» = lt (m .description .over *f entryAt nan iLim (m .ranges .ik)) (hypotOf (m .parts .«i_ac») (m .parts .«i_dc»));
-      over = count .over;
-      «over_left» = count .«over_left»;
-    }
-
--- the same of its parts: `over` is the description's, and the countdown is given
+-- `v_ol`: `hypot(v_ac, v_dc) > over() * V_LIM[vr]`, and `i_ol` alike; `over` is the description's
 unfoldable pub limitsOf : Float → Ranges → Parts → Countdown → Limits
 limitsOf over r p count =
     record {
@@ -54,6 +43,10 @@ limitsOf over r p count =
       over = count .over;
       «over_left» = count .«over_left»;
     }
+
+-- of a meter
+unfoldable pub limits : Pw → Limits
+limits m = limitsOf (m .description .over) (m .ranges) (m .parts) (overLimit (m .«over_t0») (m .settings .«t_lim») (m .clock .«t_poll»))
 
 -- a DC part reaches the floor: `v_dc.abs() >= fv || i_dc.abs() >= fi`
 unfoldable pub dcSignal : Ranges → Parts → Bool

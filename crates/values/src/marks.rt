@@ -66,7 +66,7 @@ pub(crate) fn over_limit(t0: Stamp, t_lim: u16, t_poll: u64) -> Countdown
     }
 }
 
-// What is over its range, `over` times of it at the most, beside the countdown.
+// Whether voltage and current are above `over` times their range's limit, beside the countdown.
 pub(crate) fn limits_of(over: f32, ranges: Ranges, parts: Parts, count: Countdown) -> Limits
     ensures { λ r. ⌜ r ≡ limitsOf over ranges parts count ⌝ }
 {

@@ -39,8 +39,8 @@ pub enum Vals {
     Measured(PowerVals),
 }
 
-// What the values are worked out from, but for what a frame's accounting changes: `over` is the
-// description's, `seen` the cycle's.
+// What the values are worked out from and a frame's accounting leaves: `over` is the description's, `seen` the
+// cycle's; of the mode `cal_req` is not looked at.
 pub struct Basis {
     pub mode: Mode,
     pub ranges: Ranges,
@@ -51,8 +51,8 @@ pub struct Basis {
     pub over: f32,
 }
 
-// What a frame's accounting changes: what is counted, the clock, since when the current is above its
-// limit, and the phase steps.
+// Of what a frame's accounting changes, that which the values show: what is counted, the clock, since when the
+// current is above its limit, and the phase steps.
 pub struct Changing {
     pub tally: Tally,
     pub clock: Clock,
@@ -98,7 +98,7 @@ fn dc_amperes(mode: Mode, i_dc: f32) -> f32
     i_dc
 }
 
-// What the load draws.
+// The figures of the load: power, apparent and reactive power, power factor, volts and amperes.
 pub fn load_of(basis: Basis) -> Figures
     ensures { λ r. ⌜ r ≡ loadOf basis ⌝ }
 {
@@ -112,7 +112,7 @@ pub fn load_of(basis: Basis) -> Figures
     load_figures(mode, a, ranges, used, r)
 }
 
-// All values, where the load draws this.
+// All values, with these figures of the load.
 pub fn values_of(basis: Basis, load: Figures, changing: Changing) -> PowerVals
     ensures { λ r. ⌜ r ≡ valuesOf basis load changing ⌝ }
 {

@@ -10,7 +10,8 @@ use borrow.Author.Needs.{needs}
 use Rattle.paths.specs.declared.measuring.Measuring.{Measuring}
 use Rattle.paths.specs.declared.measuring.Outcome.{Outcome}
 use Rattle.paths.specs.Measuring.{ends}
-use Rattle.paths.specs.Dc.{dcVPart, dcIPart, dcAfterV, dcVFirst, dcFrame}
+use Rattle.paths.specs.Dc.{dcVPart, dcIPart, dcAfterV, dcFrame}
+use Rattle.paths.specs.Divided.{dcVFirst}
 use Rattle.paths.proofs.dc.dc_frame.Statement.{statement}
 use Rattle.paths.proofs.dc.dc_frame.Tie as tie
 

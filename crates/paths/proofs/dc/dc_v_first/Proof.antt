@@ -1,7 +1,7 @@
 -- By the flags.
 use mathlib.Core.Path.{_∙_}
 use borrow.Author.Needs.{needs}
-use Rattle.paths.specs.Dc.{dcVFirst}
+use Rattle.paths.specs.Divided.{dcVFirst}
 use Rattle.paths.proofs.dc.dc_v_first.Statement.{statement}
 use Rattle.paths.proofs.dc.dc_v_first.Tie as tie
 
