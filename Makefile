@@ -15,7 +15,9 @@ CALLS = 25000
 
 CC = gcc
 CFLAGS = -std=c11 -Wall -Wextra -Werror -Wconversion -Iinclude -Ihost
-PLAIN = -O2
+# A struct is copied by a call of memcpy where gcc knows the flag: inline it takes `rep movs`, three times as long for a meter.
+COPIES := $(shell $(CC) -mmemcpy-strategy=libcall:-1:noalign -E -x c /dev/null > /dev/null 2>&1 && echo -mmemcpy-strategy=libcall:-1:noalign)
+PLAIN = -O2 $(COPIES)
 SANITIZED = -g -O1 -fsanitize=address,undefined -fno-sanitize-recover=all
 
 LIBRARIES = target/staticlib

@@ -230,7 +230,8 @@ struct pw_codes pw_decode(const uint8_t *bytes, size_t length);
  * held to its end. What such a meter shows is then nobody's promise.
  *
  * A meter is 896 bytes and a step 1056; they go by value over the stack, of
- * which a call takes some KB.
+ * which a call takes some KB. A good part of a call's time is their copying:
+ * gcc for x86-64 copies them faster with -mmemcpy-strategy=libcall:-1:noalign.
  *
  * What a meter just made holds is said at each field, unless it is 0, 0.0, no
  * or none. The names are those of the published firmware. */

@@ -36,13 +36,13 @@ fn b_unranged(with: Instrument, before: Measuring) -> Outcome
 pub(crate) fn b_next(with: Instrument, mode: Mode, now: u64, before: Measuring) -> Outcome
     ensures { λ r. ⌜ r ≡ bNext with mode now before ⌝ }
 {
-    let ranged = autorange(with, mode, before.cycle.stat == R34_YY, now, before);
     let cycle = advance(before.cycle);
     let mut after = before;
     if before.cycle.stat == R34_XY {
         after.cycle = cycle;
         return goes_on(after);
     }
+    let ranged = autorange(with, mode, before.cycle.stat == R34_YY, now, before);
     if ranged.mark.set {
         return ranged_to(before, ranged);
     }

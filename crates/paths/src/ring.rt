@@ -122,14 +122,16 @@ pub fn ring_after(
 ) -> Ring
     ensures { λ r. ⌜ r ≡ ringAfter before mode cycle flags codes now «ad1_taken» ⌝ }
 {
-    let mut ring = before;
     let stat = result_stat(mode, cycle);
     let disc = is_dropped(mode, cycle);
     if holds_rms_lpf(flags) {
-        ring = note_result(before, now, stat, disc, codes);
+        if ad1_taken {
+            return note_current(note_result(before, now, stat, disc, codes), codes.ad1);
+        }
+        return note_result(before, now, stat, disc, codes);
     }
     if ad1_taken {
-        return note_current(ring, codes.ad1);
+        return note_current(before, codes.ad1);
     }
-    ring
+    before
 }
