@@ -529,8 +529,9 @@ struct pw_val {
 
 /* The readouts of values: the main one, volts and amperes. */
 struct pw_readouts {
-    struct pw_val main; /* by settings.main: the power, or an energy, which is
-                         * never over. In the alternating method VA, VAh */
+    struct pw_val main; /* by in_force.main of the values: the power, or an
+                         * energy, which is never over. In the alternating
+                         * method VA, VAh */
     struct pw_val v;
     struct pw_val i;
     float si; /* the power in W, alternating VA, also where the main readout is
@@ -646,11 +647,13 @@ struct pw_step {
 };
 
 /* An APPLY, in what follows: the chip is set up anew for the ranges and the
- * method. The phases begin again, all that was `seen` is forgotten but what is
- * kept, the first results are dropped (one of each channel in DC coupling, four
- * in the alternating method), and where the V range is another than the
- * comparator's window was chosen for, that begins anew. It gives a mark, with
- * the deadline 550 ms after the call's time.
+ * method. The phases begin again, in the simultaneous method with that of the
+ * one channel whose range has changed where the other's parts are kept (phase 1
+ * of the voltage, 3 of the current), else with phase 0. All that was `seen` is
+ * forgotten but what is kept, the first results are dropped (one of each
+ * channel in DC coupling, four in the alternating method), and where the V
+ * range is another than the comparator's window was chosen for, that begins
+ * anew. It gives a mark, with the deadline 550 ms after the call's time.
  *
  * A JOB'S END: where a job runs, none does any longer; the ranges and automatic
  * marks become those found at its start, cal_req is set where the meter is on,
@@ -733,7 +736,8 @@ struct pw_step pw_gain_job(struct pw_meter meter, uint64_t time);
 
 /* Starts the phase calibration: with a reactive load, in the simultaneous
  * method, the meter looks for the phase step at which the power is nothing. Two
- * rounds of eight power results; after each the host re-applies (cal_req).
+ * rounds of eight power results; after each the host re-applies (cal_req), but
+ * not where the first ends it with PW_CAL_NOT_REACTIVE.
  *
  * Returns: done, no mark. Or PW_OFF, PW_METHOD, in this order.
  * Leaves:  round 1 from the step in force, cal_res PW_CAL_RUN. One that runs
@@ -775,7 +779,7 @@ struct pw_step pw_reapply(struct pw_meter meter, uint64_t time);
  * (deadline after 550 ms; 450 for the DC reference, 2000 for the AC one), or
  * the job ends, with none. A zero job ends at any counted frame that shows a
  * signal. No range is found by the meter in a job. A job's frames are not
- * smoothed, counted or noted in the ring.
+ * smoothed, accounted or noted in the ring.
  *
  * Outside a job, in DC coupling, a frame with the RMS and LPF bits brings the
  * voltage and one with the AD1 bit the current; in the other couplings a frame
@@ -787,10 +791,10 @@ struct pw_step pw_reapply(struct pw_meter meter, uint64_t time);
  * alternating method gives a mark too (600 ms to the voltage, 550 to the
  * current), and may come with a reading.
  *
- * A frame that is not dropped or turned down and changes no range (in DC
- * coupling: one that brings a current) is ACCOUNTED, once all that the method
- * needs was seen: the interval since the last accounted frame is counted at
- * that one's powers, limit and phase calibration go on, and there is a reading.
+ * A frame whose result is taken (in DC coupling: whose current is) and which
+ * changes no range is ACCOUNTED, once all that the method needs was seen: the
+ * interval since the last accounted frame is counted at that one's powers,
+ * limit and phase calibration go on, and there is a reading.
  *
  * Takes:   a meter; the time in ms; the flags; `bytes`, where `length` bytes
  *          can be read, of any alignment. It must not be NULL, not even for
@@ -817,22 +821,22 @@ struct pw_step pw_frame(struct pw_meter meter, uint64_t time, uint8_t flags,
  * writes meter.cycle.stat to R34 and meter.comparator.r21 to R21: these give no
  * mark. With any other row it writes neither; see pw_row. The host remembers
  * the kind that it wrote at the last mark: pw_row may tell another one from the
- * end of a job to the re-apply. A host that counts the
- * frequency looks at meter.comparator.r20 too, which changes with r21 and
- * without a mark: the comparator then watches another input, and the count
- * begins anew.
+ * end of a job to the re-apply. A host that counts the frequency looks at
+ * meter.comparator.r20 too, which may change without a mark, also where r21
+ * stays: it then writes r20 to R20, so that the comparator watches the other
+ * input, and then r20 with bit 1 set, by which the count begins anew.
  *
  * CAL_REQ. After each call, while on and no job runs, the host looks at
  * meter.mode.cal_req, and where it is set calls pw_reapply, before it reads the
  * next frame: one that is read first is taken with what the job left, its row,
  * R34 and frames to drop, in the ranges put back, and is shown and accounted
- * so. It is set by each end of a job, by an order too, and by a round of a
- * phase calibration that moves the step. An order that ends a job and applies
- * leaves it set as well: the re-apply after it is one more than needed, and
- * costs some dropped results. A range order that ends a job and changes no
- * range gives no mark at all, only cal_req. It outlives pw_off and pw_on, and a
- * job start does not clear it: during the job pw_reapply is refused with
- * PW_BUSY, so wait for its end.
+ * so. It is set by each end of a job, by an order too, and by the end of each
+ * round of a phase calibration but a first one of PW_CAL_NOT_REACTIVE. An order
+ * that ends a job and applies leaves it set as well: the re-apply after it is
+ * one more than needed, and costs some dropped results. A range order that ends
+ * a job and changes no range gives no mark at all, only cal_req. It outlives
+ * pw_off and pw_on, and a job start does not clear it: during the job
+ * pw_reapply is refused with PW_BUSY, so wait for its end.
  *
  * THE CLOCK. Off time is counted: pw_off stops no interval, and the first frame
  * accounted after pw_on counts the whole time since the last one, at the last
@@ -878,9 +882,9 @@ struct pw_step pw_frame(struct pw_meter meter, uint64_t time, uint8_t flags,
  *
  * Returns: not `measured` while off, or before all that the method needs was
  *          seen: voltage and current, and except in the alternating method the
- *          power (in DC coupling as soon as both are there). Then `vals` are
- *          zeros, but for ranges 3 and 5, both automatic, coupling DC, `run`
- *          yes, and p_avg, a NaN. */
+ *          power (in DC coupling with the first current that comes once the
+ *          voltage was seen). Then `vals` are zeros, but for ranges 3 and 5,
+ *          both automatic, coupling DC, `run` yes, and p_avg, a NaN. */
 struct pw_vals {
     bool measured;
     struct pw_power_vals vals;
@@ -895,8 +899,8 @@ struct pw_power_vals pw_state(struct pw_meter meter);
 struct pw_readouts pw_reading_vals(struct pw_power_vals vals);
 
 /* The energy box beside the main readout: the energy (VAh in the alternating
- * method) where settings.main is PW_MAIN_P; for every other number the
- * power. */
+ * method) where in_force.main of the values is PW_MAIN_P; for every other
+ * number the power. */
 struct pw_val pw_energy_val(struct pw_power_vals vals);
 
 /* What the stock phone program is told, which knows no power: watts as V,
@@ -939,8 +943,9 @@ struct pw_conversion {
     bool disc;    /* it was dropped. A dropped AD1 is not in the ring */
     int64_t rms;  /* 0 for PW_RING_DC_I */
     int32_t lpf;  /* for PW_RING_DC_I the AD1 code */
-    uint16_t dt;  /* ms since the RMS and LPF result before it, at most 65535; 0
-                   * for PW_RING_DC_I */
+    uint16_t dt;  /* ms since the RMS and LPF result before it that the ring
+                   * noted, or of the first since time 0; at most 65535; 0 for
+                   * PW_RING_DC_I */
 };
 
 /* The conversion of this age, the latest of age 0.

@@ -7,9 +7,8 @@ use Rattle.figures.specs.declared.tally.Accounted.{Accounted}
 use Rattle.figures.specs.declared.tally.Accounted.the-variants.{Counted, Full}
 use Rattle.state.specs.declared.Pw.{Pw}
 use Rattle.values.specs.Methods.{alternating}
-use Rattle.accounting.specs.declared.AccountAnswer.{AccountAnswer}
 use Rattle.accounting.specs.declared.LedgerAnswer.{LedgerAnswer}
-use Rattle.accounting.specs.Account.{counted, accountBy, account}
+use Rattle.accounting.specs.Account.{AccountAnswer, counted, accountBy, account}
 use Rattle.accounting.specs.Divided.{countedOf, ledgerIn, withLedger, postedBy, posted}
 
 abbrev pub answerOf : Pw → LedgerAnswer → AccountAnswer

@@ -16,7 +16,6 @@ use Rattle.state.specs.Fresh.{noTime}
 use Rattle.state.specs.Counting.{elapsed}
 use Rattle.phase.specs.Phase.{calAccounted}
 use Rattle.values.specs.Methods.{alternating}
-use Rattle.accounting.specs.declared.AccountAnswer.{AccountAnswer}
 
 -- `if run { if let Some(t) = t_last { .. } }`: the interval from the last accounted frame, at `p_tot` and `s_last`; the active energy counts where `!alt || dc`
 unfoldable pub counted : Pw → ℕ → Accounted
@@ -68,6 +67,11 @@ accountedTo m t load now =
       comparator = m .comparator;
       ring = m .ring;
     }
+
+-- the meter after it; or full, and the meter as it was
+pub record AccountAnswer : Type 0 where
+  pub full : Bool
+  pub pw : Pw
 
 abbrev pub accountBy : Pw → Figures → ℕ → Accounted → AccountAnswer
 accountBy m load now (Counted t w) = record { full = false; pw = accountedTo m t load now }

@@ -11,7 +11,6 @@ use phase::cal_account;
 use state::Clock;
 use state::PhaseCal;
 use state::Powers;
-use state::Pw;
 use state::Stamp;
 use state::elapsed;
 
@@ -29,12 +28,6 @@ pub struct Ledger {
 pub struct LedgerAnswer {
     pub full: bool,
     pub ledger: Ledger,
-}
-
-// The meter after the accounting; or full, and the meter as it was: the definitions speak of it.
-pub struct AccountAnswer {
-    pub full: bool,
-    pub pw: Pw,
 }
 
 // The tally after the interval from the last accounted frame. While stopped, and where there was no such

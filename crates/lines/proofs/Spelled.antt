@@ -110,3 +110,8 @@ poll-read t f h p q r = between-brackets (then pollWord (then t (then f h))) ∙
   where
     items : pollLine (itemOf (then t (then f h))) (itemOf (restOf (then t (then f h)))) (restOf (restOf (then t (then f h)))) ≡ pollLine t f h
     items = rw (first-item 10 t (then f h) (omega arith) (time-digits t p), behind-it 10 t (then f h) (omega arith) (time-digits t p), first-item 16 f h (omega arith) (flags-are-digits f q), behind-it 16 f h (omega arith) (flags-are-digits f q))
+
+-- of a frame's 32 bytes the first `count` are those that its digits say
+pub brought : (l : List ℕ) → take (length l) (padded l) ≡ l
+unfolding padded
+brought l = take-append-seam l (replicate (32 - length l) 0)

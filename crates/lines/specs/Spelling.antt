@@ -64,7 +64,7 @@ other = record { kind = Other; time = 0; flags = 0; bytes = replicate 32 0; coun
 unfoldable pub timedLine : Kind → List ℕ → Line
 timedLine kind t = cond (isTime t) (record { kind = kind; time = numberOf 10 t; flags = 0; bytes = replicate 32 0; count = 0 }) other
 
--- 32 bytes that begin with these
+-- 32 bytes that begin with these: the first so many are these (theorem `brought` in proofs/Spelled.antt)
 unfoldable pub padded : List ℕ → List ℕ
 padded l = l ++ replicate (32 - length l) 0
 

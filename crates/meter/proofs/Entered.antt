@@ -23,10 +23,9 @@ use Rattle.values.specs.Load.{loadFigures, split}
 use Rattle.values.specs.Marks.{limits, limitsOf, dcIsBetter, acIsMissed, hint, frequency}
 use Rattle.values.specs.Vals.{inForce, dcVolts, dcAmperes, values, pwVals}
 use Rattle.values.specs.Divided.{inForceOf, basisIn, loadOf, valuesOf}
-use Rattle.accounting.specs.declared.AccountAnswer.{AccountAnswer}
 use Rattle.accounting.specs.declared.Ledger.{Ledger}
 use Rattle.accounting.specs.declared.LedgerAnswer.{LedgerAnswer}
-use Rattle.accounting.specs.Account.{account}
+use Rattle.accounting.specs.Account.{AccountAnswer, account}
 use Rattle.accounting.specs.Divided.{posted, ledgerIn, withLedger}
 use Rattle.accounting.proofs.Posting.{account-posted}
 use Rattle.orders.specs.declared.answer.Step.{Step}

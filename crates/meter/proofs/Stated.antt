@@ -45,10 +45,9 @@ use Rattle.orders.specs.Switches.{switchedOff}
 use Rattle.orders.specs.Ranges.{setRanges}
 use Rattle.orders.specs.Starts.{startJob, phaseStart}
 use Rattle.orders.proofs.Stated.{Leaves, leaves-all, Carried, aborted-none, aborted-idle, on-carried, off-carried, method-carried, coupling-carried, ranges-carried, reapply-carried, start-carried, phase-carried, reset-carried, run-carried, turned-away-leaves}
-use Rattle.meter.specs.declared.frame.PathEnd.{PathEnd}
 use Rattle.meter.specs.declared.making.Made.{Made}
 use Rattle.meter.specs.Making.{notMade, refuses, make}
-use Rattle.meter.specs.Frame.{accountedStep, read, valuedBy, valued, framed, measured, polledStep, inJob, taken, pollBy, poll}
+use Rattle.meter.specs.Frame.{PathEnd, accountedStep, read, valuedBy, valued, framed, measured, polledStep, inJob, taken, pollBy, poll}
 use Rattle.meter.specs.Calls.{step, Call, On, Off, Method, SetRanges, Coupling, ZeroJob, GainJob, PhaseStart, EnergyReset, Run, Reapply, Frame}
 use Rattle.meter.specs.Table.{codesOf}
 

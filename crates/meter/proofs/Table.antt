@@ -30,8 +30,8 @@ use Rattle.orders.specs.Switches.{switchedOn, switchedOff, methodSet, couplingS
 use Rattle.orders.specs.Ranges.{rangesSet, setRanges}
 use Rattle.orders.specs.Starts.{startedStep, startJob, phaseStart, energyReset, runSet}
 use Rattle.orders.proofs.Stated.{on-carried, off-carried, method-carried, coupling-carried, ranges-carried, reapply-carried, start-carried, phase-carried, reset-carried, run-carried}
-use Rattle.meter.specs.declared.frame.PathEnd.{PathEnd}
-use Rattle.meter.specs.Frame.{accountedStep, read, valuedBy, valued, framed, measuredBy, measured, inJob, taken, pollBy, poll}
+use Rattle.meter.specs.Frame.{PathEnd, accountedStep, read, valuedBy, valued, framed, measuredBy, measured, inJob, taken, pollBy, poll}
+use Rattle.meter.proofs.Full.{full-when}
 use Rattle.meter.specs.Calls.{step, Call, On, Off, Method, SetRanges, Coupling, ZeroJob, GainJob, PhaseStart, EnergyReset, Run, Reapply, Frame}
 use Rattle.meter.specs.Table.{codesOf, lateWhen, frameRefused, offWhen, busyWhen, methodWhen, fullRefused, fullBy, fullEnd, named, refusalOf, turnedAway, leftBy, aloneBy}
 
@@ -105,7 +105,10 @@ module _ (m : Pw) (t flags : ℕ) (bytes : List ℕ) where
   valued-row : (n : Pw) (mark : Stamp) (v : Vals) → FrameRow (cond (fullBy n t v) refusal.Full refusal.Done) (valuedBy m n t mark v)
   unfolding read
   valued-row n mark NoValues = marked-row n mark
-  valued-row n mark (Measured v) = let a = account n (v .load) t in test m call (a .full) (full-row m call) (accepted m call (accountedStep (a .pw) mark) refl)
+  valued-row n mark (Measured v) =
+      let a = account n (v .load) t in
+      subst (λ (b : Bool). FrameRow (cond b refusal.Full refusal.Done) (read m n v t mark)) (full-when n (v .load) t)
+      (test m call (a .full) (full-row m call) (accepted m call (accountedStep (a .pw) mark) refl))
 
   measured-row : (f : PathEnd) → FrameRow (cond (fullEnd t f) refusal.Full refusal.Done) (measuredBy m t f)
   unfolding valued

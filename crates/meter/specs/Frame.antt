@@ -1,5 +1,5 @@
 -- The frame call: `poll_power` of the source, between document 01's refusals. "Order: .. 5, 4, 1, 2, 3, and 6 last": of these a frame has 5, 4, 1 and 6.
-use mathlib.Core.Bool.{not, cond}
+use mathlib.Core.Bool.{Bool, not, cond}
 use mathlib.Core.List.{List}
 use Prim.Native.Nat.{ℕ}
 use lib.Dec.{eqb}
@@ -24,7 +24,6 @@ use Rattle.orders.specs.declared.answer.Reading.{Reading}
 use Rattle.orders.specs.declared.answer.Reading.the-variants.{NoReading, Read}
 use Rattle.orders.specs.declared.answer.Step.{Step}
 use Rattle.orders.specs.Answer.{late, refusedWith, marked}
-use Rattle.meter.specs.declared.frame.PathEnd.{PathEnd}
 
 -- `pw_reading` of what `pw_vals` answers
 abbrev pub readingBy : Vals → Reading
@@ -77,6 +76,12 @@ withPoll m t =
       comparator = m .comparator;
       ring = m .ring;
     }
+
+-- what a frame outside a job leaves up to its values, its mark, and whether the source goes on to `pw_vals`
+pub record PathEnd : Type 0 where
+  pub pw : Pw
+  pub mark : Stamp
+  pub «to_values» : Bool
 
 -- a frame outside a job, by its path, up to its values
 unfoldable pub framed : Pw → ℕ → ℕ → Codes → PathEnd

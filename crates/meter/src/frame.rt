@@ -32,14 +32,6 @@ use values::vals::Changing;
 use values::vals::load_of;
 use values::vals::values_of;
 
-// What a frame outside a job leaves up to its values, its mark, and whether the source goes on to `pw_vals`:
-// the definitions speak of it.
-struct PathEnd {
-    pw: Pw,
-    mark: Stamp,
-    to_values: bool,
-}
-
 // What a frame outside a job enters in the ledger, and the reading that it gives; or full.
 struct Entered {
     full: bool,

@@ -10,7 +10,7 @@ use lib.Dec.{leb}
 use lib.ListN.{length, getD, take, drop, drop-of-length-le}
 use lib.Seq.{drop-cons, take-all}
 use Rattle.pwline.specs.declared.session.Session.{Session}
-use Rattle.pwline.specs.Session.{fed, fedAll}
+use Rattle.pwline.specs.Divided.{fed, fedAll}
 
 pub fed-next : (s x y : Session) (part : List ℕ) (i : ℕ) → i < length part → x ≡ fed s (getD part i 0) → fedAll s (drop i part) ≡ y → fedAll x (drop (i + 1) part) ≡ y
 unfolding fedAll

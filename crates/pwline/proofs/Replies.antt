@@ -8,7 +8,7 @@ use Rattle.lines.specs.declared.Kind.{Kind}
 use Rattle.lines.specs.declared.Line.{Line}
 use Rattle.lines.specs.Spelling.{lineOf}
 use Rattle.lines.proofs.Lengths.{count-fits}
-use Rattle.pwline.specs.Session.{obeyedBy, obeyed}
+use Rattle.pwline.specs.Obeyed.{obeyedBy, obeyed}
 
 pub by-kind : (m : Pw) (line : List ℕ) (l : Line) (k : Kind) → l ≡ lineOf line → l .kind ≡ k → obeyedBy k m l ≡ obeyed m line
 unfolding obeyed

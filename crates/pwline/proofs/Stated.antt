@@ -15,7 +15,8 @@ use Rattle.lines.specs.Spelling.{lineOf}
 use Rattle.lines.proofs.Lengths.{cut}
 use Rattle.pwline.specs.declared.session.Reply.{Reply}
 use Rattle.pwline.specs.declared.session.Session.{Session}
-use Rattle.pwline.specs.Session.{obeyedBy, obeyed, nextNumber, started, keptLine, noted, ended, replyText, endedText, fed, fedText, lastText, writtenFrom}
+use Rattle.pwline.specs.Obeyed.{obeyedBy, obeyed, nextNumber, replyText}
+use Rattle.pwline.specs.Divided.{started, keptLine, noted, ended, endedText, fed, fedText, lastText, writtenFrom}
 use Rattle.pwline.specs.Whole.{linesFrom, answersFrom, output}
 
 -- ---- the line so far, p, and what the session keeps of it

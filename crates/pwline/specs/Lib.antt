@@ -1,3 +1,4 @@
 pub mod Text
-pub mod Session
+pub mod Obeyed
+pub mod Divided
 pub mod Whole

@@ -5,7 +5,7 @@ use mathlib.Core.List.{List, [], _∷_, _++_}
 use lib.Dec.{eqb}
 use lib.ListN.{length}
 use Rattle.state.specs.declared.Pw.{Pw}
-use Rattle.pwline.specs.Session.{obeyed, nextNumber, plainMeter, replyText}
+use Rattle.pwline.specs.Obeyed.{obeyed, nextNumber, plainMeter, replyText}
 
 -- the lines of an input, `line` having been read of the first: a line feed ends each; "A last line without a line feed counts as a line"
 unfoldable pub linesFrom : List ℕ → List ℕ → List (List ℕ)

@@ -12,7 +12,7 @@ mod text;
 
 ghost use mathlib.Core.Path.{_≡_};
 ghost use Prim.Native.Nat.{_≤_};
-ghost use Rattle.pwline.specs.Session.{fedAll, FedSome};
+ghost use Rattle.pwline.specs.Divided.{fedAll, FedSome};
 use libc::STDIN_FILENO;
 use libc::STDOUT_FILENO;
 use session::Session;

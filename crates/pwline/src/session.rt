@@ -2,7 +2,8 @@
 ghost use mathlib.Core.Path.{_≡_};
 ghost use Prim.Native.Nat.{_≤_, min};
 ghost use Rattle.pwline.specs.Text.{shown};
-ghost use Rattle.pwline.specs.Session.{toldBy, obeyed, started, noted, ended, endedText, fed, fedText, lastText};
+ghost use Rattle.pwline.specs.Obeyed.{toldBy, obeyed};
+ghost use Rattle.pwline.specs.Divided.{started, noted, ended, endedText, fed, fedText, lastText};
 use crate::text::Text;
 use crate::text::answer;
 use lines::Kind;

@@ -4,7 +4,7 @@ use mathlib.Core.Path.{_≡_, refl}
 use Prim.Native.Nat.{_-_, _≤_}
 use native.Mathlib.Omega.{arith}
 use lib.ListN.{length, drop}
-use Rattle.pwline.specs.Session.{fedAll}
+use Rattle.pwline.specs.Divided.{fedAll}
 use Rattle.pwline.proofs.Feeding.{fed-next, fed-end}
 use Rattle.pwline.proofs.feed_all.Statement.{statement}
 use Rattle.pwline.proofs.feed_all.Tie as tie

@@ -4,7 +4,8 @@ use mathlib.Core.Path.{_≡_, sym, ap, _∙_}
 use native.Mathlib.Omega.{arith}
 use lib.ListN.{length, length-map}
 use lib.Seq.{length-take-le}
-use Rattle.pwline.specs.Session.{obeyed, keptLine, endedBy, ended, replyText, endedText}
+use Rattle.pwline.specs.Obeyed.{obeyed, replyText}
+use Rattle.pwline.specs.Divided.{keptLine, endedBy, ended, endedText}
 use Rattle.pwline.proofs.Feeding.{held-take}
 use Rattle.pwline.proofs.session.end.Statement.{statement}
 use Rattle.pwline.proofs.session.end.Tie as tie

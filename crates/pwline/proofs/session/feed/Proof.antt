@@ -3,7 +3,7 @@ use borrow.Author.Needs.{needs}
 use mathlib.Core.Path.{refl}
 use native.Mathlib.Omega.{arith}
 use borrow.Author.Tests.{eq-eqb, ne-eqb}
-use Rattle.pwline.specs.Session.{fed, fedText}
+use Rattle.pwline.specs.Divided.{fed, fedText}
 use Rattle.pwline.proofs.session.feed.Statement.{statement}
 use Rattle.pwline.proofs.session.feed.Tie as tie
 

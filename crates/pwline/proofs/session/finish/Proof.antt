@@ -3,7 +3,7 @@ use borrow.Author.Needs.{needs}
 use mathlib.Core.Path.{refl}
 use native.Mathlib.Omega.{arith}
 use borrow.Author.Tests.{eq-eqb, ne-eqb}
-use Rattle.pwline.specs.Session.{lastText}
+use Rattle.pwline.specs.Divided.{lastText}
 use Rattle.pwline.proofs.session.finish.Statement.{statement}
 use Rattle.pwline.proofs.session.finish.Tie as tie
 

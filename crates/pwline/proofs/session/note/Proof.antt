@@ -1,7 +1,7 @@
 -- While there is room the byte is stored at the count.
 use borrow.Author.Needs.{needs}
 use borrow.Author.Tests.{lt-ltb, le-ltb}
-use Rattle.pwline.specs.Session.{noted}
+use Rattle.pwline.specs.Divided.{noted}
 use Rattle.pwline.proofs.session.note.Statement.{statement}
 use Rattle.pwline.proofs.session.note.Tie as tie
 

@@ -3,7 +3,7 @@ use borrow.Author.Needs.{needs}
 use mathlib.Core.Path.{sym, ap, _∙_}
 use lib.Seq.{length-take-le}
 use Rattle.lines.specs.declared.Kind.the-variants.{On, Zero, Poll, Other}
-use Rattle.pwline.specs.Session.{toldBy, notTold}
+use Rattle.pwline.specs.Obeyed.{toldBy, notTold}
 use Rattle.pwline.proofs.Replies.{by-kind, fits}
 use Rattle.pwline.proofs.session.obey.Statement.{statement}
 use Rattle.pwline.proofs.session.obey.Tie as tie

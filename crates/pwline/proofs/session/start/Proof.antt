@@ -1,6 +1,6 @@
 -- A meter just made.
 use borrow.Author.Needs.{needs}
-use Rattle.pwline.specs.Session.{started}
+use Rattle.pwline.specs.Divided.{started}
 use Rattle.pwline.proofs.session.start.Statement.{statement}
 use Rattle.pwline.proofs.session.start.Tie as tie
 

@@ -1,6 +1,6 @@
 -- The refusal's number.
 use borrow.Author.Needs.{needs}
-use Rattle.pwline.specs.Session.{toldBy}
+use Rattle.pwline.specs.Obeyed.{toldBy}
 use Rattle.pwline.proofs.session.told_by.Statement.{statement}
 use Rattle.pwline.proofs.session.told_by.Tie as tie
 
