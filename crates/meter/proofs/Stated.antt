@@ -21,6 +21,7 @@ use Rattle.tables.specs.Description.{inBounds, descriptionRefusal}
 use Rattle.figures.specs.declared.load.Figures.{Figures}
 use Rattle.state.specs.declared.Job.{Job}
 use Rattle.state.specs.declared.Pw.{Pw}
+use Rattle.state.specs.declared.Settings.{Settings}
 use Rattle.state.specs.Fresh.{newPw}
 use Rattle.state.proofs.Marks.{MarkAt}
 use Rattle.paths.specs.Whole.{instrumentIn, measuringIn, withMeasuring}
@@ -44,11 +45,11 @@ use Rattle.orders.specs.Switches as switches
 use Rattle.orders.specs.Switches.{switchedOff}
 use Rattle.orders.specs.Ranges.{setRanges}
 use Rattle.orders.specs.Starts.{startJob, phaseStart}
-use Rattle.orders.proofs.Stated.{Leaves, leaves-all, Carried, aborted-none, aborted-idle, on-carried, off-carried, method-carried, coupling-carried, ranges-carried, reapply-carried, start-carried, phase-carried, reset-carried, run-carried, turned-away-leaves}
+use Rattle.orders.proofs.Stated.{Leaves, leaves-all, Carried, aborted-none, aborted-idle, on-carried, off-carried, method-carried, coupling-carried, ranges-carried, reapply-carried, start-carried, phase-carried, reset-carried, run-carried, settings-carried, turned-away-leaves}
 use Rattle.meter.specs.declared.making.Made.{Made}
 use Rattle.meter.specs.Making.{notMade, refuses, make}
 use Rattle.meter.specs.Frame.{PathEnd, accountedStep, read, valuedBy, valued, framed, measured, polledStep, inJob, taken, pollBy, poll}
-use Rattle.meter.specs.Calls.{step, Call, On, Off, Method, SetRanges, Coupling, ZeroJob, GainJob, PhaseStart, EnergyReset, Run, Reapply, Frame}
+use Rattle.meter.specs.Calls.{step, Call, On, Off, Method, SetRanges, Coupling, ZeroJob, GainJob, PhaseStart, EnergyReset, Run, Reapply, SetSettings, Frame}
 use Rattle.meter.specs.Table.{codesOf}
 
 -- ---- the orders, each by how it can end
@@ -65,6 +66,7 @@ isFrame PhaseStart = false
 isFrame EnergyReset = false
 isFrame (Run b) = false
 isFrame (Reapply t) = false
+isFrame (SetSettings s) = false
 isFrame (Frame t flags bytes) = true
 
 -- the call's time; 0 for those that carry none, which give no mark
@@ -80,6 +82,7 @@ timeOf PhaseStart = 0
 timeOf EnergyReset = 0
 timeOf (Run b) = 0
 timeOf (Reapply t) = t
+timeOf (SetSettings s) = 0
 timeOf (Frame t flags bytes) = t
 
 -- the job's record after an accepted call: ended by five orders, begun by two, carried on by a frame while it runs, and by all else left
@@ -95,10 +98,27 @@ jobLeft m PhaseStart = m .job
 jobLeft m EnergyReset = m .job
 jobLeft m (Run b) = m .job
 jobLeft m (Reapply t) = m .job
+jobLeft m (SetSettings s) = m .job
 jobLeft m (Frame t flags bytes) = cond (eqb (m .job .job) 0) (m .job) (jobPolled m t flags (codesOf bytes) .pw .job)
 
+-- the settings after an accepted order: one order writes them, whole
+abbrev pub settingsLeft : Pw → Call → Settings
+settingsLeft m (On t) = m .settings
+settingsLeft m (Off t) = m .settings
+settingsLeft m (Method t alt) = m .settings
+settingsLeft m (SetRanges t v i) = m .settings
+settingsLeft m (Coupling t asked) = m .settings
+settingsLeft m (ZeroJob t) = m .settings
+settingsLeft m (GainJob t) = m .settings
+settingsLeft m PhaseStart = m .settings
+settingsLeft m EnergyReset = m .settings
+settingsLeft m (Run b) = m .settings
+settingsLeft m (Reapply t) = m .settings
+settingsLeft m (SetSettings s) = s
+settingsLeft m (Frame t flags bytes) = m .settings
+
 module _ (P : Step → Type 0) (m : Pw) (refused : (n : Refusal) → refuses n ≡ true → P (refusedWith n m)) where
-  start-ends : (t : ℕ) (k : Kind) → P (refusedWith refusal.Method (jobTurnedAway m k)) → ((s : Step) → Carried t m (jobStarted m k t .pw .job) s → P s) → P (startJob m t k)
+  start-ends : (t : ℕ) (k : Kind) → P (refusedWith refusal.Method (jobTurnedAway m k)) → ((s : Step) → Carried t m (jobStarted m k t .pw .job) (m .settings) s → P s) → P (startJob m t k)
   unfolding startJob
   start-ends t k away carried =
       either P (late t) (refused refusal.Late refl)
@@ -106,7 +126,7 @@ module _ (P : Step → Type 0) (m : Pw) (refused : (n : Refusal) → refuses n �
       (either P (not (eqb (m .job .job) 0)) (refused refusal.Busy refl) (either P (m .mode .alt) away (carried _ (start-carried m t k)))))
 
   -- what holds of a refused order, of a job start refused with 3, and of an order carried out, holds of every order
-  order-ends : (c : Call) → isFrame c ≡ false → ((k : Kind) → P (refusedWith refusal.Method (jobTurnedAway m k))) → ((s : Step) → Carried (timeOf c) m (jobLeft m c) s → P s) → P (step m c)
+  order-ends : (c : Call) → isFrame c ≡ false → ((k : Kind) → P (refusedWith refusal.Method (jobTurnedAway m k))) → ((s : Step) → Carried (timeOf c) m (jobLeft m c) (settingsLeft m c) s → P s) → P (step m c)
   unfolding switches.on switches.off switches.method switches.coupling switches.reapply setRanges phaseStart
   order-ends (On t) e away carried = either P (late t) (refused refusal.Late refl) (carried _ (on-carried m t))
   order-ends (Off t) e away carried = either P (late t) (refused refusal.Late refl) (carried _ (off-carried m t))
@@ -121,6 +141,7 @@ module _ (P : Step → Type 0) (m : Pw) (refused : (n : Refusal) → refuses n �
   order-ends (Run b) e away carried = carried _ (run-carried m 0 b)
   order-ends (Reapply t) e away carried =
       either P (late t) (refused refusal.Late refl) (either P (not (eqb (m .job .job) 0)) (refused refusal.Busy refl) (carried _ (reapply-carried m t)))
+  order-ends (SetSettings s) e away carried = carried _ (settings-carried m 0 s)
   order-ends (Frame t flags bytes) e away carried = absurd (true≢false e)
 
   -- ---- a frame, by how it can end
@@ -171,6 +192,7 @@ every-call Q order frame PhaseStart = order PhaseStart refl
 every-call Q order frame EnergyReset = order EnergyReset refl
 every-call Q order frame (Run b) = order (Run b) refl
 every-call Q order frame (Reapply t) = order (Reapply t) refl
+every-call Q order frame (SetSettings s) = order (SetSettings s) refl
 every-call Q order frame (Frame t flags bytes) = frame t flags bytes
 
 abbrev IsDone : Step → Type 0
@@ -188,7 +210,7 @@ pub order-leaves : (m : Pw) (c : Call) → isFrame c ≡ false → let s = step 
 unfolding refusedWith
 order-leaves m c f =
     order-ends (λ s. (s .answer .used ≡ 0) × (s .answer .reading ≡ NoReading) × MarkAt (timeOf c) (s .answer .mark) × Leaves m (s .pw)) m
-    (λ n r. (refl, refl, inl refl, leaves-all m)) c f (λ k. (refl, refl, inl refl, turned-away-leaves m k)) (λ s h. (h .1, h .2, h .3, h .4))
+    (λ n r. (refl, refl, inl refl, leaves-all m)) c f (λ k. (refl, refl, inl refl, turned-away-leaves m k .0)) (λ s h. (h .1, h .2, h .3, h .4))
 
 -- "off clears only `on`"
 pub off-clears-on : (m : Pw) (t : ℕ) → late t ≡ false → eqb (m .job .job) 0 ≡ true → step m (Off t) .pw ≡ withMode m (withOn (m .mode) false (m .mode .dc))
@@ -271,7 +293,7 @@ marks-at m = every-call (λ c. MarkAt (timeOf c) (step m c .answer .mark)) (λ c
 pub polls-at : (m : Pw) (c : Call) → step m c .pw .clock .«t_poll» ≡ cond (isFrame c && not (refuses (step m c .answer .refusal))) (timeOf c) (m .clock .«t_poll»)
 polls-at m =
     every-call (λ c. step m c .pw .clock .«t_poll» ≡ cond (isFrame c && not (refuses (step m c .answer .refusal))) (timeOf c) (m .clock .«t_poll»))
-    (λ c f. rw (f) (order-leaves m c f .3 .8)) (frame-poll m)
+    (λ c f. rw (f) (order-leaves m c f .3 .7)) (frame-poll m)
 
 -- description and words are those that the meter was made with
 pub made-with : (m : Pw) (c : Call) → (step m c .pw .description ≡ m .description) × (step m c .pw .calibration ≡ m .calibration)
@@ -287,7 +309,7 @@ not-false false e = absurd (true≢false e)
 
 pub corrections-stay : (m : Pw) (c : Call) → jobFrame m c ≡ false → step m c .pw .corrections ≡ m .corrections
 corrections-stay m =
-    every-call (λ c. jobFrame m c ≡ false → step m c .pw .corrections ≡ m .corrections) (λ c f e. order-leaves m c f .3 .3) (λ t flags bytes e. outside-leaves m t flags bytes (not-false (eqb (m .job .job) 0) e) .0)
+    every-call (λ c. jobFrame m c ≡ false → step m c .pw .corrections ≡ m .corrections) (λ c f e. order-leaves m c f .3 .2) (λ t flags bytes e. outside-leaves m t flags bytes (not-false (eqb (m .job .job) 0) e) .0)
 
 -- an accepted call leaves the job's record so
 pub job-left : (m : Pw) (c : Call) → IsDone (step m c) → step m c .pw .job ≡ jobLeft m c
@@ -298,14 +320,24 @@ job-left m =
     (λ t flags bytes d. by-test (λ b. step m (Frame t flags bytes) .pw .job ≡ cond b (m .job) (jobPolled m t flags (codesOf bytes) .pw .job)) (eqb (m .job .job) 0)
     (λ e. outside-leaves m t flags bytes e .1) (λ e. ap (λ (s : Step). s .pw .job) (in-job m t flags bytes e d)))
 
+-- and the settings so
+pub settings-left : (m : Pw) (c : Call) → IsDone (step m c) → step m c .pw .settings ≡ settingsLeft m c
+unfolding refusedWith
+settings-left m =
+    every-call (λ c. IsDone (step m c) → step m c .pw .settings ≡ settingsLeft m c)
+    (λ c f. order-ends (λ s. IsDone s → s .pw .settings ≡ settingsLeft m c) m (λ n r d. absurd (not-done m n r d)) c f (λ k d. absurd (not-done (jobTurnedAway m k) refusal.Method refl d)) (λ s h d. h .6))
+    (λ t flags bytes d. by-test (λ b. step m (Frame t flags bytes) .pw .settings ≡ m .settings) (eqb (m .job .job) 0)
+    (λ e. outside-leaves m t flags bytes e .2) (λ e. in-job-leaves m t flags bytes e .6))
+
 abbrev JobIs : Pw → Step → Type 0
 JobIs m s = s .pw .job ≡ m .job
 
--- four orders neither begin nor end a job: refused or not, they leave its record
+-- five orders neither begin nor end a job: refused or not, they leave its record
 pub data KeepsJob : Call → Type 0 where
   phase : KeepsJob PhaseStart
   reset : KeepsJob EnergyReset
   run : {b : Bool} → KeepsJob (Run b)
+  settings : {s : Settings} → KeepsJob (SetSettings s)
   reapply : {t : ℕ} → KeepsJob (Reapply t)
 
 pub job-stays : {c : Call} (m : Pw) → KeepsJob c → step m c .pw .job ≡ m .job
@@ -313,6 +345,7 @@ unfolding phaseStart switches.reapply refusedWith
 job-stays m phase = either (JobIs m) (not (m .mode .on)) refl (either (JobIs m) (m .mode .alt || m .mode .dc) refl (phase-carried m 0 .5))
 job-stays m reset = reset-carried m 0 .5
 job-stays m (run {b}) = run-carried m 0 b .5
+job-stays m (settings {s}) = settings-carried m 0 s .5
 job-stays m (reapply {t}) = either (JobIs m) (late t) refl (either (JobIs m) (not (eqb (m .job .job) 0)) refl (reapply-carried m t .5))
 
 -- the orders that first end a job

@@ -1,14 +1,15 @@
--- Every call so far that may change a meter, what one leaves and answers, and what a list of them leaves. Calls that only read are not here. Document 01: "each call gets the meter as the last one left it". The order `settings` is not here yet.
+-- Every call that may change a meter, what one leaves and answers, and what a list of them leaves. Calls that only read are not here. Document 01: "each call gets the meter as the last one left it".
 use mathlib.Core.Bool.{Bool}
 use mathlib.Core.List.{List, [], _∷_}
 use Prim.Native.Nat.{ℕ}
 use Rattle.state.specs.declared.Pw.{Pw}
+use Rattle.state.specs.declared.Settings.{Settings}
 use Rattle.steps.specs.declared.place.Kind.the-variants.{Zero, Gain}
 use Rattle.orders.specs.declared.answer.Step.{Step}
 use Rattle.orders.specs.declared.ranges.Ask.{Ask}
 use Rattle.orders.specs.Switches as switches
 use Rattle.orders.specs.Ranges.{setRanges}
-use Rattle.orders.specs.Starts.{startJob, phaseStart, energyReset, runSet}
+use Rattle.orders.specs.Starts.{startJob, phaseStart, energyReset, runSet, settingsSet}
 use Rattle.meter.specs.Frame.{poll}
 
 -- "All but phase start, energy reset, run and settings carry a time": the first number of each. The second of `Coupling` is the coupling asked for, that of `Frame` the flags, before its bytes
@@ -24,6 +25,7 @@ pub data Call : Type 0 where
   EnergyReset : Call
   Run : Bool → Call
   Reapply : ℕ → Call
+  SetSettings : Settings → Call
   Frame : ℕ → ℕ → List ℕ → Call
 
 abbrev pub step : Pw → Call → Step
@@ -38,6 +40,7 @@ step m PhaseStart = phaseStart m
 step m EnergyReset = energyReset m
 step m (Run b) = runSet m b
 step m (Reapply t) = switches.reapply m t
+step m (SetSettings s) = settingsSet m s
 step m (Frame t flags bytes) = poll m t flags bytes
 
 -- the meter after the list

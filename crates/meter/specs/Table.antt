@@ -27,7 +27,7 @@ use Rattle.orders.specs.declared.answer.Answer.{Answer}
 use Rattle.orders.specs.declared.answer.Reading.the-variants.{NoReading}
 use Rattle.orders.specs.Answer.{late}
 use Rattle.meter.specs.Frame.{PathEnd, framed}
-use Rattle.meter.specs.Calls.{step, Call, On, Off, Method, SetRanges, Coupling, ZeroJob, GainJob, PhaseStart, EnergyReset, Run, Reapply, Frame}
+use Rattle.meter.specs.Calls.{step, Call, On, Off, Method, SetRanges, Coupling, ZeroJob, GainJob, PhaseStart, EnergyReset, Run, Reapply, SetSettings, Frame}
 
 -- the calls, as the table's column "When" names them
 pub data Named : Type 0 where
@@ -49,6 +49,7 @@ named PhaseStart = phaseStart
 named EnergyReset = another
 named (Run b) = another
 named (Reapply t) = reapply
+named (SetSettings s) = another
 named (Frame t flags bytes) = frame
 
 -- 1, off: "frame, job start or phase start while not on"
@@ -88,6 +89,7 @@ lateWhen PhaseStart = false
 lateWhen EnergyReset = false
 lateWhen (Run b) = false
 lateWhen (Reapply t) = late t
+lateWhen (SetSettings s) = false
 lateWhen (Frame t flags bytes) = late t
 
 -- 4, frame: "frame not 14 bytes"
@@ -132,6 +134,7 @@ frameRefused PhaseStart = false
 frameRefused EnergyReset = false
 frameRefused (Run b) = false
 frameRefused (Reapply t) = false
+frameRefused (SetSettings s) = false
 frameRefused (Frame t flags bytes) = frameWhen bytes
 
 abbrev pub fullRefused : Pw → Call → Bool
@@ -146,6 +149,7 @@ fullRefused m PhaseStart = false
 fullRefused m EnergyReset = false
 fullRefused m (Run b) = false
 fullRefused m (Reapply t) = false
+fullRefused m (SetSettings s) = false
 fullRefused m (Frame t flags bytes) = fullWhen m t flags bytes
 
 -- the first that holds, in that order; 0, done, where none does
@@ -171,6 +175,7 @@ turnedAway m PhaseStart = m
 turnedAway m EnergyReset = m
 turnedAway m (Run b) = m
 turnedAway m (Reapply t) = m
+turnedAway m (SetSettings s) = m
 turnedAway m (Frame t flags bytes) = m
 
 abbrev pub leftBy : Refusal → Pw → Call → Pw

@@ -12,6 +12,7 @@ use Rattle.tables.specs.Ranges.{coupOf}
 use Rattle.figures.specs.Tally.{freshTally}
 use Rattle.state.specs.declared.Job.{Job}
 use Rattle.state.specs.declared.Pw.{Pw}
+use Rattle.state.specs.declared.Settings.{Settings}
 use Rattle.state.specs.Fresh.{noTime}
 use Rattle.state.proofs.Marks.{MarkAt, of-apply}
 use Rattle.ranging.specs.declared.apply.Keep.{Keep}
@@ -27,26 +28,26 @@ use Rattle.jobs.proofs.Stated.{settle-of}
 use Rattle.orders.specs.declared.answer.Step.{Step}
 use Rattle.orders.specs.declared.answer.Reading.the-variants.{NoReading}
 use Rattle.orders.specs.declared.ranges.Ask.{Ask}
-use Rattle.orders.specs.With.{withOn, withAlt, withCoup, withCalReq, withRun, withTLast, withMode, withRanges, withTally, withPhaseCal}
+use Rattle.orders.specs.With.{withOn, withAlt, withCoup, withCalReq, withRun, withTLast, withMode, withRanges, withTally, withSettings, withPhaseCal}
 use Rattle.orders.specs.Answer.{marked, done}
 use Rattle.orders.specs.Apply.{applied, appliedIfOn, aborted}
 use Rattle.orders.specs.Switches.{switchedOn, switchedOff, methodSet, takesForce, couplingSet}
 use Rattle.orders.specs.Ranges.{vAsked, iAsked, barredAsked, sameRanges, keepOf, rangesSet}
-use Rattle.orders.specs.Starts.{startedStep, energyReset, runSet}
+use Rattle.orders.specs.Starts.{startedStep, energyReset, runSet, settingsSet}
 
--- what no order changes: description and words, settings, zeros and gains, smoothed values, the powers of the next interval, since when the current is above its limit, the ring, and the last frame's time
+-- what no order changes: description and words, zeros and gains, smoothed values, the powers of the next interval, since when the current is above its limit, the ring, and the last frame's time
 abbrev pub Leaves : Pw → Pw → Type 0
 Leaves m n =
-    (n .description ≡ m .description) × (n .calibration ≡ m .calibration) × (n .settings ≡ m .settings) × (n .corrections ≡ m .corrections) × (n .parts ≡ m .parts) × (n .powers ≡ m .powers)
+    (n .description ≡ m .description) × (n .calibration ≡ m .calibration) × (n .corrections ≡ m .corrections) × (n .parts ≡ m .parts) × (n .powers ≡ m .powers)
     × (n .«over_t0» ≡ m .«over_t0») × (n .ring ≡ m .ring) × (n .clock .«t_poll» ≡ m .clock .«t_poll»)
 
 pub leaves-all : (m : Pw) → Leaves m m
-leaves-all m = (refl, refl, refl, refl, refl, refl, refl, refl, refl)
+leaves-all m = (refl, refl, refl, refl, refl, refl, refl, refl)
 
--- an order of the time t on m that is carried out, and the job that it leaves: done, with no frame counted and no reading; its mark, if any, has "the deadline (the call's time plus the source's settle)"
-abbrev pub Carried : ℕ → Pw → Job → Step → Type 0
-Carried t m j s =
-    (s .answer .refusal ≡ refusal.Done) × (s .answer .used ≡ 0) × (s .answer .reading ≡ NoReading) × MarkAt t (s .answer .mark) × Leaves m (s .pw) × (s .pw .job ≡ j)
+-- an order of the time t on m that is carried out, with the job and the settings that it leaves: done, with no frame counted and no reading; its mark, if any, has "the deadline (the call's time plus the source's settle)"
+abbrev pub Carried : ℕ → Pw → Job → Settings → Step → Type 0
+Carried t m j w s =
+    (s .answer .refusal ≡ refusal.Done) × (s .answer .used ≡ 0) × (s .answer .reading ≡ NoReading) × MarkAt t (s .answer .mark) × Leaves m (s .pw) × (s .pw .job ≡ j) × (s .pw .settings ≡ w)
 
 -- ---- an order that ends a job
 
@@ -75,34 +76,38 @@ unfolding aborted jobEnded withBench jobEnd ended benchIn
 aborted-leaves m =
     either (λ (b : Bench). Leaves m (withBench m b)) (eqb (m .job .job) 0) {x = benchIn m} {y = ended jrAbort (benchIn m)} (leaves-all m) (leaves-all m)
 
+aborted-settings : (m : Pw) → aborted m .settings ≡ m .settings
+unfolding aborted jobEnded withBench
+aborted-settings m = refl
+
 -- ---- each order, once it is not refused
 
-module _ (t : ℕ) (m : Pw) (j : Job) where
-  applied-carried : (keep : Keep) (n : Pw) → Leaves m n → n .job ≡ j → Carried t m j (applied keep n t)
+module _ (t : ℕ) (m : Pw) (j : Job) (w : Settings) where
+  applied-carried : (keep : Keep) (n : Pw) → Leaves m n → n .job ≡ j → n .settings ≡ w → Carried t m j w (applied keep n t)
   unfolding applied marked apply
-  applied-carried keep n l e = (refl, refl, refl, inr (settleMs, of-apply, refl), l, e)
+  applied-carried keep n l e f = (refl, refl, refl, inr (settleMs, of-apply, refl), l, e, f)
 
-  done-carried : (n : Pw) → Leaves m n → n .job ≡ j → Carried t m j (done n)
+  done-carried : (n : Pw) → Leaves m n → n .job ≡ j → n .settings ≡ w → Carried t m j w (done n)
   unfolding done marked
-  done-carried n l e = (refl, refl, refl, inl refl, l, e)
+  done-carried n l e f = (refl, refl, refl, inl refl, l, e, f)
 
 module _ (m : Pw) (t : ℕ) where
   abbrev Ends : Step → Type 0
-  Ends = Carried t m (aborted m .job)
+  Ends = Carried t m (aborted m .job) (m .settings)
 
   pub on-carried : Ends (switchedOn (aborted m) t)
   unfolding switchedOn
-  on-carried = let n = aborted m in applied-carried t m (n .job) Nothing (withMode n (withOn (n .mode) true (eqb (n .mode .coup) coupDc))) (aborted-leaves m) refl
+  on-carried = let n = aborted m in applied-carried t m (n .job) (m .settings) Nothing (withMode n (withOn (n .mode) true (eqb (n .mode .coup) coupDc))) (aborted-leaves m) refl (aborted-settings m)
 
   pub off-carried : Ends (switchedOff (aborted m))
   unfolding switchedOff
-  off-carried = let n = aborted m in done-carried t m (n .job) (withMode n (withOn (n .mode) false (n .mode .dc))) (aborted-leaves m) refl
+  off-carried = let n = aborted m in done-carried t m (n .job) (m .settings) (withMode n (withOn (n .mode) false (n .mode .dc))) (aborted-leaves m) refl (aborted-settings m)
 
   pub method-carried : (alt : Bool) → Ends (methodSet (aborted m) t alt)
   unfolding methodSet appliedIfOn
   method-carried alt =
       let n = withMode (aborted m) (withAlt (aborted m .mode) alt) in
-      either Ends (n .mode .on) (applied-carried t m (n .job) Nothing n (aborted-leaves m) refl) (done-carried t m (n .job) n (aborted-leaves m) refl)
+      either Ends (n .mode .on) (applied-carried t m (n .job) (m .settings) Nothing n (aborted-leaves m) refl (aborted-settings m)) (done-carried t m (n .job) (m .settings) n (aborted-leaves m) refl (aborted-settings m))
 
   pub coupling-carried : (asked : ℕ) → Ends (couplingSet (aborted m) t asked)
   unfolding couplingSet
@@ -110,8 +115,8 @@ module _ (m : Pw) (t : ℕ) where
       let n = aborted m in
       let dc = eqb (coupOf asked) coupDc in
       either Ends (takesForce dc (n .mode) (n .job .«job_res»))
-      (applied-carried t m (n .job) Nothing (withMode n (withCoup (n .mode) (coupOf asked) dc)) (aborted-leaves m) refl)
-      (done-carried t m (n .job) (withMode n (withCoup (n .mode) (coupOf asked) (n .mode .dc))) (aborted-leaves m) refl)
+      (applied-carried t m (n .job) (m .settings) Nothing (withMode n (withCoup (n .mode) (coupOf asked) dc)) (aborted-leaves m) refl (aborted-settings m))
+      (done-carried t m (n .job) (m .settings) (withMode n (withCoup (n .mode) (coupOf asked) (n .mode .dc))) (aborted-leaves m) refl (aborted-settings m))
 
   pub ranges-carried : (v i : Ask) → Ends (rangesSet (aborted m) t v i)
   unfolding rangesSet
@@ -119,29 +124,33 @@ module _ (m : Pw) (t : ℕ) where
       let n = aborted m in
       let r = iAsked i (vAsked v (n .ranges)) in
       let after = withRanges n r (barredAsked i (n .barred)) in
-      either Ends (n .mode .on && not (sameRanges (n .ranges) r)) (applied-carried t m (n .job) (keepOf (n .ranges) r) after (aborted-leaves m) refl)
-      (done-carried t m (n .job) after (aborted-leaves m) refl)
+      either Ends (n .mode .on && not (sameRanges (n .ranges) r)) (applied-carried t m (n .job) (m .settings) (keepOf (n .ranges) r) after (aborted-leaves m) refl (aborted-settings m))
+      (done-carried t m (n .job) (m .settings) after (aborted-leaves m) refl (aborted-settings m))
 
-  pub reapply-carried : Carried t m (m .job) (applied Nothing (withMode m (withCalReq (m .mode) false)) t)
-  reapply-carried = applied-carried t m (m .job) Nothing (withMode m (withCalReq (m .mode) false)) (leaves-all m) refl
+  pub reapply-carried : Carried t m (m .job) (m .settings) (applied Nothing (withMode m (withCalReq (m .mode) false)) t)
+  reapply-carried = applied-carried t m (m .job) (m .settings) Nothing (withMode m (withCalReq (m .mode) false)) (leaves-all m) refl refl
 
-  pub start-carried : (k : Kind) → Carried t m (jobStarted m k t .pw .job) (startedStep (jobStarted m k t))
+  pub start-carried : (k : Kind) → Carried t m (jobStarted m k t .pw .job) (m .settings) (startedStep (jobStarted m k t))
   unfolding jobStarted begun stepAt benchIn marked
-  start-carried k = let p = placeIn (atStep 0 (noted k (benchIn m))) in (refl, refl, refl, inr (settleOf p, settle-of p, refl), leaves-all m, refl)
+  start-carried k = let p = placeIn (atStep 0 (noted k (benchIn m))) in (refl, refl, refl, inr (settleOf p, settle-of p, refl), leaves-all m, refl, refl)
 
-  -- these three carry no time, and give no mark
-  pub phase-carried : Carried t m (m .job) (done (withPhaseCal m (calStarted (m .«phase_cal»))))
-  phase-carried = done-carried t m (m .job) (withPhaseCal m (calStarted (m .«phase_cal»))) (leaves-all m) refl
+  -- these four carry no time, and give no mark
+  pub phase-carried : Carried t m (m .job) (m .settings) (done (withPhaseCal m (calStarted (m .«phase_cal»))))
+  phase-carried = done-carried t m (m .job) (m .settings) (withPhaseCal m (calStarted (m .«phase_cal»))) (leaves-all m) refl refl
 
-  pub reset-carried : Carried t m (m .job) (energyReset m)
+  pub reset-carried : Carried t m (m .job) (m .settings) (energyReset m)
   unfolding energyReset
-  reset-carried = done-carried t m (m .job) (withTally m freshTally (withTLast (m .clock) noTime)) (leaves-all m) refl
+  reset-carried = done-carried t m (m .job) (m .settings) (withTally m freshTally (withTLast (m .clock) noTime)) (leaves-all m) refl refl
 
-  pub run-carried : (b : Bool) → Carried t m (m .job) (runSet m b)
+  pub run-carried : (b : Bool) → Carried t m (m .job) (m .settings) (runSet m b)
   unfolding runSet
-  run-carried b = done-carried t m (m .job) (withTally m (m .tally) (withRun (m .clock) b)) (leaves-all m) refl
+  run-carried b = done-carried t m (m .job) (m .settings) (withTally m (m .tally) (withRun (m .clock) b)) (leaves-all m) refl refl
+
+  pub settings-carried : (w : Settings) → Carried t m (m .job) w (settingsSet m w)
+  unfolding settingsSet
+  settings-carried w = done-carried t m (m .job) w (withSettings m w) (leaves-all m) refl refl
 
 -- a start that is refused with 3 changes the job's record alone
-pub turned-away-leaves : (m : Pw) (k : Kind) → Leaves m (jobTurnedAway m k)
+pub turned-away-leaves : (m : Pw) (k : Kind) → Leaves m (jobTurnedAway m k) × (jobTurnedAway m k .settings ≡ m .settings)
 unfolding jobTurnedAway withBench benchIn
-turned-away-leaves m k = leaves-all m
+turned-away-leaves m k = (leaves-all m, refl)

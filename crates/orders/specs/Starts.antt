@@ -1,10 +1,11 @@
--- The orders zero job and gain job (`pw_zero_start`, `pw_vcal_start`), phase start (`pw_cal_start`), energy reset (`energy_reset`) and run. Document 01: "The source's false from `pw_job_start` and `pw_cal_start` is our 1, 2 or 3"; the order is 5, 1, 2, 3.
+-- The orders zero job and gain job (`pw_zero_start`, `pw_vcal_start`), phase start (`pw_cal_start`), energy reset (`energy_reset`), run and settings. Document 01: "The source's false from `pw_job_start` and `pw_cal_start` is our 1, 2 or 3"; the order is 5, 1, 2, 3.
 use mathlib.Core.Bool.{Bool, not, _||_, cond}
 use Prim.Native.Nat.{ℕ}
 use lib.Dec.{eqb}
 use Rattle.refusals.specs.declared.Refusal.the-variants as refusal
 use Rattle.figures.specs.Tally.{freshTally}
 use Rattle.state.specs.declared.Pw.{Pw}
+use Rattle.state.specs.declared.Settings.{Settings}
 use Rattle.state.specs.Fresh.{noTime}
 use Rattle.steps.specs.declared.place.Kind.{Kind}
 use Rattle.phase.specs.Phase.{calStarted}
@@ -12,7 +13,7 @@ use Rattle.jobs.specs.declared.whole.Started.{Started}
 use Rattle.jobs.specs.Whole.{jobStarted, jobTurnedAway}
 use Rattle.orders.specs.declared.answer.Step.{Step}
 use Rattle.orders.specs.Answer.{late, refusedWith, marked, done}
-use Rattle.orders.specs.With.{withRun, withTLast, withTally, withClock, withPhaseCal}
+use Rattle.orders.specs.With.{withRun, withTLast, withTally, withClock, withSettings, withPhaseCal}
 
 abbrev pub startedStep : Started → Step
 startedStep s = marked (s .pw) (s .mark)
@@ -40,3 +41,7 @@ energyReset m = done (withTally m freshTally (withTLast (m .clock) noTime))
 -- only `run`
 unfoldable pub runSet : Pw → Bool → Step
 runSet m b = done (withClock m (withRun (m .clock) b))
+
+-- "settings (`comp`, `r_path`, `i_cont`, `t_lim`, `main`, any bits)": these five, on or off, in a job too. It carries no time, and nothing refuses it
+unfoldable pub settingsSet : Pw → Settings → Step
+settingsSet m s = done (withSettings m s)

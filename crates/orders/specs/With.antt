@@ -9,6 +9,7 @@ use Rattle.state.specs.declared.Mode.{Mode}
 use Rattle.state.specs.declared.PhaseCal.{PhaseCal}
 use Rattle.state.specs.declared.Pw.{Pw}
 use Rattle.state.specs.declared.Ranges.{Ranges}
+use Rattle.state.specs.declared.Settings.{Settings}
 use Rattle.state.specs.declared.Stamp.{Stamp}
 
 -- on, dc
@@ -66,3 +67,7 @@ withClock m c = withTally m (m .tally) c
 -- phase_cal
 abbrev pub withPhaseCal : Pw → PhaseCal → Pw
 withPhaseCal m v = record { description = m .description; calibration = m .calibration; mode = m .mode; ranges = m .ranges; barred = m .barred; cycle = m .cycle; parts = m .parts; powers = m .powers; tally = m .tally; clock = m .clock; «over_t0» = m .«over_t0»; settings = m .settings; «phase_cal» = v; corrections = m .corrections; job = m .job; comparator = m .comparator; ring = m .ring }
+
+-- settings
+abbrev pub withSettings : Pw → Settings → Pw
+withSettings m v = record { description = m .description; calibration = m .calibration; mode = m .mode; ranges = m .ranges; barred = m .barred; cycle = m .cycle; parts = m .parts; powers = m .powers; tally = m .tally; clock = m .clock; «over_t0» = m .«over_t0»; settings = v; «phase_cal» = m .«phase_cal»; corrections = m .corrections; job = m .job; comparator = m .comparator; ring = m .ring }

@@ -1,7 +1,7 @@
-// The orders that start something: zero job, gain job, phase start; energy reset and run.
+// The orders that start something: zero job, gain job, phase start; energy reset, run and settings.
 ghost use mathlib.Core.Path.{_≡_};
 ghost use Rattle.steps.specs.declared.place.Kind.the-variants.{Zero, Gain};
-ghost use Rattle.orders.specs.Starts.{startJob, phaseStart, energyReset, runSet};
+ghost use Rattle.orders.specs.Starts.{startJob, phaseStart, energyReset, runSet, settingsSet};
 use crate::answer::Step;
 use crate::answer::done;
 use crate::answer::late;
@@ -13,6 +13,7 @@ use jobs::whole::job_turned_away;
 use phase::cal_start;
 use refusals::Refusal;
 use state::Pw;
+use state::Settings;
 use state::Stamp;
 use steps::place::Kind;
 
@@ -91,5 +92,14 @@ pub fn set_run(before: Pw, run: bool) -> Step
 {
     let mut after = before;
     after.clock.run = run;
+    done(after)
+}
+
+// Compensation, path resistances, the limits of current and time, and the main readout: any bits.
+pub fn set_settings(before: Pw, settings: Settings) -> Step
+    ensures { λ r. ⌜ r ≡ settingsSet before settings ⌝ }
+{
+    let mut after = before;
+    after.settings = settings;
     done(after)
 }
