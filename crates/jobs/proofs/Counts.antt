@@ -66,7 +66,7 @@ last-small zeroSteps = omega arith
 last-small dcSteps = omega arith
 last-small acSteps = omega arith
 
-one-more : (n : ℕ) → n < 255 → countUp n ≡ suc n
+pub one-more : (n : ℕ) → n < 255 → countUp n ≡ suc n
 unfolding countUp
 one-more n h = rw (lt-ltb n 255 h) (omega arith)
 

@@ -1,0 +1,9 @@
+pub mod Lists
+pub mod Relation
+pub mod Serve
+pub mod Gains
+pub mod Frames
+pub mod Every
+pub mod Counts
+pub mod InForce
+pub mod Demand3
