@@ -41,7 +41,7 @@ use Rattle.meter.proofs.Stated.{in-job, in-job-leaves, outside-counts-none}
 use Rattle.book.specs.Book.{RangeGain, earned, Running, idle, serving, Book, book, Setting, placeFor, Outcome, going, struck, zeroed, gained, outcome, entered, framed, started, strikes, note, asked, entry, books, blank, settingOf}
 use Rattle.book.specs.Demand3.{runs, resultOf, Ended, Quiet, Agrees, fed, Demand3}
 use Rattle.book.proofs.Lists.{length-more}
-use Rattle.book.proofs.Relation.{Runs, Rel}
+use Rattle.book.proofs.Relation.{Runs, Rel, few-frames}
 use Rattle.book.proofs.Frames.{frame-good, frame-same}
 use Rattle.book.proofs.Every.{Keeps, no-job, none-refused, reached}
 use Rattle.book.proofs.Counts.{zero-length, gain-length}
@@ -193,6 +193,7 @@ module _ (w : Calibration) (m : Pw) (b : Book) (h : Keeps w m b) where
         count = λ t flags bytes k r fs e d. counts k r fs e t flags bytes d;
         result = λ t flags bytes k r fs e d q. results k r fs e t flags bytes d q;
         outside = none-counted;
+        most = λ k r fs e. few-frames (settingOf w r (b .zeros)) (benchIn m) k r fs (rel-in k r fs e .runs);
         zero-length = λ f r fs e z i. zero-length (settingOf w r (b .zeros)) (benchIn m) r fs f (rel-in Zero r fs e .runs) z i;
         gain-length = λ f r fs e g i. gain-length (settingOf w r (b .zeros)) (benchIn m) r fs f (rel-in Gain r fs e .runs) g i;
       }

@@ -29,7 +29,7 @@ use Rattle.jobs.specs.Frame.{summed, counted, dropped, servedBy, oneUsed, serve
 use Rattle.jobs.proofs.Counts.{one-more}
 use Rattle.book.specs.Book.{measures, begins, first, sumOf, Setting, readingAt, meanX, meanY, placeFor, Outcome, going, struck, zeroAt, finished, outcomeBy, outcome, serving, Book, book, settingOf, framed}
 use Rattle.book.proofs.Lists.{both, ltb-same, sum-same, length-more, reading-old, reading-new}
-use Rattle.book.proofs.Relation.{Results, layIn, Serving, Rel, Good, kind-is, after-begin, few-frames, spot-place, place-in, outcome-is}
+use Rattle.book.proofs.Relation.{Results, layIn, Serving, Rel, Good, kind-is, at-most-52, after-begin, few-frames, spot-place, place-in, outcome-is}
 use Rattle.book.proofs.Serve.{results-old, Full, struck-keeps, zero-done-keeps}
 use Rattle.book.proofs.Gains.{gain-done-keeps}
 
@@ -70,8 +70,7 @@ module _ (c : Setting) (t : Bench) (k : Kind) (r : Ranges) (fs : List Codes) (f 
 
   used-new : countUp (t .job .used) ≡ length all
   used-new =
-      let few : length fs < 52 = few-frames c t k r fs sv in
-      one-more (t .job .used) (omega (arith, sv .used)) ∙ ap suc (sv .used) ∙ sym (length-more fs f)
+      one-more (t .job .used) (omega (arith, sv .used, few-frames c t k r fs sv, at-most-52 k)) ∙ ap suc (sv .used) ∙ sym (length-more fs f)
 
   counted-new : countUp n ≡ suc n
   counted-new = one-more n (omega (arith, sv .few))

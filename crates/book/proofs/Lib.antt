@@ -7,3 +7,4 @@ pub mod Every
 pub mod Counts
 pub mod InForce
 pub mod Demand3
+pub mod Program

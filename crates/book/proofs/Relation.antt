@@ -23,7 +23,7 @@ use Rattle.steps.specs.Reading.{Zeros, zerosIn}
 use Rattle.jobs.specs.declared.bench.Bench.{Bench}
 use Rattle.jobs.specs.Bench.{kindIn, placeIn}
 use Rattle.book.specs.Book.{measures, drops, begins, first, lastOf, sumOf, Setting, readingAt, dcOf, layoutIn, stepIn, placeFor, Outcome, going, zeroAt, rawAt, refAt, outcomeBy, outcome, RangeGain, earned, Running, idle, serving, Book, entered, settingOf}
-use Rattle.book.specs.Demand3.{stored, resultOf}
+use Rattle.book.specs.Demand3.{stored, mostOf, resultOf}
 use Rattle.book.proofs.Lists.{begins-mono, step-is, Same, same}
 
 -- ---- the relation
@@ -117,7 +117,7 @@ last-same Gain true false = refl
 last-same Gain false true = refl
 last-same Gain false false = refl
 
-pub begins-last : (k : Kind) (d : Bool) → begins (layoutOf k d) (suc (lastOf (layoutOf k d))) ≤ 52
+begins-last : (k : Kind) (d : Bool) → begins (layoutOf k d) (suc (lastOf (layoutOf k d))) ≤ mostOf k
 begins-last Zero d = omega arith
 begins-last Gain true = omega arith
 begins-last Gain false = omega arith
@@ -174,6 +174,10 @@ meter-drops Raw = refl
 meter-drops RefDc = refl
 meter-drops RefAc = refl
 
+pub at-most-52 : (k : Kind) → mostOf k ≤ 52
+at-most-52 Zero = omega arith
+at-most-52 Gain = omega arith
+
 -- ---- where the next frame stands
 
 module _ (c : Setting) (t : Bench) (k : Kind) (r : Ranges) (fs : List Codes) (sv : Serving c t k r fs) where
@@ -186,7 +190,7 @@ module _ (c : Setting) (t : Bench) (k : Kind) (r : Ranges) (fs : List Codes) (sv
   pub before-next : length fs < begins (layIn k t) (suc (t .job .«job_step»))
   before-next = omega (arith, sv .len, sv .fits, sv .few)
 
-  pub few-frames : length fs < 52
+  pub few-frames : suc (length fs) ≤ mostOf k
   few-frames = omega (arith, before-next, begins-mono (layIn k t) (suc (t .job .«job_step»)) (suc (lastOf (layIn k t))) (omega (arith, sv .low)), begins-last k (t .job .«job_dc»))
 
   pub spot-step : stepIn c k fs ≡ t .job .«job_step»

@@ -2,7 +2,7 @@
 use mathlib.Core.Path.{_≡_}
 use mathlib.Core.Bool.{Bool, true, false, cond}
 use mathlib.Core.List.{List, [], _∷_, _++_}
-use Prim.Native.Nat.{ℕ, suc, _<_}
+use Prim.Native.Nat.{ℕ, suc, _<_, _≤_}
 use lib.Ieee.{Float, nan}
 use lib.ListN.{getD, length}
 use Rattle.numbers.specs.Binary32.{zeroF}
@@ -44,6 +44,11 @@ stored (earned g) = g
 abbrev pub runs : Running → ℕ
 runs idle = 0
 runs (serving k r fs) = kindNumber k
+
+-- "a zero job uses at most 52, a gain job at most 22"
+abbrev pub mostOf : Kind → ℕ
+mostOf Zero = 52
+mostOf Gain = 22
 
 -- `job_res` after a ready frame
 abbrev pub resultOf : Outcome → ℕ
@@ -104,6 +109,8 @@ pub record Agrees (w : Calibration) (m : Pw) (b : Book) : Type 0 where
       → s .pw .job .«job_res» ≡ resultOf (outcome k (settingOf w r (b .zeros)) fs (codesOf bytes))
   -- "and 0 for a frame taken outside a job"
   pub outside : (t flags : ℕ) (bytes : List ℕ) → b .job ≡ idle → step m (Frame t flags bytes) .answer .used ≡ 0
+  -- with its next ready frame a job has used at most so many
+  pub most : (k : Kind) (r : Ranges) (fs : List Codes) → b .job ≡ serving k r fs → suc (length fs) ≤ mostOf k
   -- a zero job that ends well has used 52, a gain job 16 of DC or 22 of AC
   pub zero-length : (f : Codes) (r : Ranges) (fs : List Codes) → b .job ≡ serving Zero r fs
       → (z : Zeros) → outcome Zero (settingOf w r (b .zeros)) fs f ≡ zeroed z → suc (length fs) ≡ 52

@@ -1,0 +1,28 @@
+-- The program's meter after a list of calls. A host keeps a meter, hands it to a function of the C interface (crates/pw/src/calls.rt), and keeps the one that it is handed back.
+use mathlib.Core.Path.{_≡_}
+use mathlib.Core.Bool.{Bool}
+use mathlib.Core.List.{List, [], _∷_}
+use Prim.Native.Nat.{ℕ}
+use Rattle.tables.specs.declared.description.Description.{Description}
+use Rattle.state.specs.declared.Pw.{Pw}
+use Rattle.meter.specs.Making.{make}
+use Rattle.meter.specs.Calls.{step, after, Call}
+use Rattle.host.specs.declared.stepped.HostStep.{HostStep}
+use Rattle.host.specs.Stepped.{hostStep, hostMade}
+use Rattle.book.specs.Book.{books, blank}
+use Rattle.book.specs.Demand3.{Agrees, fed}
+
+-- what the function of each call returns: `f m (On t)` is the value of `pw_on(m, t)`, and so on. Each function's contract in crates/pw/src/calls.rt is this equation, for its own call
+abbrev pub Contracts : (Pw → Call → HostStep) → Type 0
+Contracts f = (m : Pw) (c : Call) → f m c ≡ hostStep (step m c)
+
+-- the host's meter after the list
+abbrev pub ran : (Pw → Call → HostStep) → Pw → List Call → Pw
+ran f m [] = m
+ran f m (c ∷ cs) = ran f (f m c .meter) cs
+
+-- for every meter that `pw_make` hands out and every list of calls: it is the definitions', and so it agrees with the book
+abbrev pub Program : Type 0
+Program =
+    (f : Pw → Call → HostStep) → Contracts f → (d : Description) (words : List ℕ) (valid : Bool) → let made = hostMade (make d words valid) in made .refusal ≡ 0
+    → (cs : List Call) → let m = made .meter in (ran f m cs ≡ after m cs) × Agrees (fed words valid) (ran f m cs) (books (fed words valid) m cs blank)
