@@ -606,9 +606,8 @@ struct pw_split {
  * where the AC part of voltage or current is below its floor; vdc in AC
  * coupling and in the alternating method, idc in AC coupling; p_avg as said.
  * Every other float is a number, unless words, description or settings are so
- * far from any bench that a square of volts or amperes, or one of them times a
- * resistance, passes 3.4e38, or a setting is itself no number: see
- * pw_set_settings. */
+ * far from any bench that a product of volts, amperes and ohms passes 3.4e38,
+ * or a resistance of the settings is no number: see pw_set_settings. */
 struct pw_power_vals {
     struct pw_figures load;
     float vdc; /* the DC parts as measured */
