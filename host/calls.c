@@ -147,6 +147,18 @@ static bool run(const struct pw_meter *m, const struct word *argument, struct pw
     return true;
 }
 
+/* COMP R0 R1 R2 I_CONT T_LIM MAIN */
+static bool set(const struct pw_meter *m, const struct word *argument, struct pw_step *step)
+{
+    struct pw_settings settings;
+    if (!read_bool(argument[0], &settings.comp) || !read_floats(argument + 1, settings.r_path, 3)
+        || !read_float(argument[4], &settings.i_cont) || !read_u16(argument[5], &settings.t_lim)
+        || !read_u8(argument[6], &settings.main))
+        return false;
+    *step = pw_set_settings(*m, settings);
+    return true;
+}
+
 static bool frame(const struct pw_meter *m, const struct word *argument, struct pw_step *step)
 {
     uint64_t time;
@@ -175,6 +187,7 @@ static const struct {
     {"phase", 0, phase},
     {"ereset", 0, ereset},
     {"run", 1, run},
+    {"set", 7, set},
     {"reapply", 1, reapply},
 };
 enum { CALLS = sizeof calls / sizeof calls[0] };

@@ -3,9 +3,9 @@
  * One command a line on standard input, its answer on standard output; with
  * --echo each line is written before its answer. Comments (#) and empty lines
  * give no answer. Every line that is not understood answers `?` and changes
- * nothing; so do the order `set` and `f knobs`, which are not served. The meter
- * is libpw.a's, the functions are libpw.a's and libleaves.a's; what is here
- * only reads and writes text.
+ * nothing; so does `f knobs`, which is not served. The meter is libpw.a's, the
+ * functions are libpw.a's and libleaves.a's; what is here only reads and writes
+ * text.
  *
  * A dump has no line with #, which says what is the oracle's own.
  *

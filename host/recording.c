@@ -132,6 +132,17 @@ static bool read_meter(struct recording *r, struct line *l, struct event *e)
     return true;
 }
 
+static bool read_settings(struct line *l, struct pw_settings *s)
+{
+    uint64_t t_lim, readout;
+    if (!take(l, " ") || !take_bool(l, &s->comp) || !take_floats(l, s->r_path, 3) || !take_floats(l, &s->i_cont, 1) ||
+        !take(l, " ") || !take_number(l, UINT16_MAX, &t_lim) || !take(l, " ") || !take_number(l, UINT8_MAX, &readout))
+        return false;
+    s->t_lim = (uint16_t)t_lim;
+    s->main = (uint8_t)readout;
+    return true;
+}
+
 static bool read_frame(struct recording *r, struct line *l, struct event *e)
 {
     uint64_t n;
@@ -160,7 +171,7 @@ static const struct {
     {"zero", EVENT_ZERO, true},         {"gain", EVENT_GAIN, true},      {"reapply", EVENT_REAPPLY, true},
     {"method", EVENT_METHOD, true},     {"ranges", EVENT_RANGES, true},  {"phase", EVENT_PHASE, false},
     {"coupling", EVENT_COUPLING, true}, {"ereset", EVENT_ERESET, false}, {"run", EVENT_RUN, false},
-    {"meter", EVENT_METER, false}};
+    {"set", EVENT_SET, false},          {"meter", EVENT_METER, false}};
 
 /* The event's name, which ends the line or has a space behind it, and its time. */
 static bool read_kind(struct line *l, struct event *e)
@@ -196,6 +207,8 @@ static bool read_event(struct recording *r, struct line *l, struct event *e)
             return false;
         e->coupling = (uint8_t)n;
         return true;
+    case EVENT_SET:
+        return read_settings(l, &e->settings);
     case EVENT_FRAME:
         return read_frame(r, l, e);
     default:

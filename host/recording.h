@@ -11,14 +11,16 @@
  *                                     together; or zN for N words of zero, or - for none
  *     on T | off T | zero T | gain T | reapply T
  *     method T ALT | coupling T COUPLING | ranges T V I | phase | ereset | run YES
+ *     set COMP R0 R1 R2 I_CONT T_LIM MAIN
  *     frame T FLAGS BYTES
  *     end LINES CHECKSUM              the closing line: how many lines are before it, and the FNV-1a of
  *                                     all bytes before it as 16 hex digits; nothing is behind it
  *
- * T is a time in ms, decimal; by custom that since midnight. ALT and YES are 0 or 1. V and I are a
- * range, a for automatic or k for kept. FLAGS and BYTES are hex, two digits a byte, - for no byte. The events
- * are spelled as in the script protocol of pwscript, so that a recording without its first and last line is a
- * script. A call that the meter refuses is an event like any other.
+ * T is a time in ms, decimal; by custom that since midnight. ALT, YES and COMP are 0 or 1. V and I are a
+ * range, a for automatic or k for kept. R0, R1, R2 and I_CONT are floats as the description's, T_LIM and MAIN
+ * decimal. FLAGS and BYTES are hex, two digits a byte, - for no byte. The events are spelled as in the script
+ * protocol of pwscript, so that a recording without its first and last line is a script. A call that the meter
+ * refuses is an event like any other.
  */
 #ifndef RECORDING_H
 #define RECORDING_H
@@ -70,6 +72,7 @@ enum event_kind {
     EVENT_PHASE,
     EVENT_ERESET,
     EVENT_RUN,
+    EVENT_SET,
     EVENT_REAPPLY,
     EVENT_FRAME
 };
@@ -82,6 +85,7 @@ struct event {
     uint8_t coupling; /* as it stands */
     uint16_t v;       /* a range, PW_AUTO or PW_KEEP */
     uint16_t i;
+    struct pw_settings settings;
     uint8_t flags;
     const uint8_t *bytes; /* in the recording's own room, until the next event is read */
     size_t length;

@@ -117,6 +117,8 @@ static struct pw_step call(struct pw_meter meter, const struct event *e)
         return pw_energy_reset(meter);
     case EVENT_RUN:
         return pw_run(meter, e->yes);
+    case EVENT_SET:
+        return pw_set_settings(meter, e->settings);
     case EVENT_REAPPLY:
         return pw_reapply(meter, e->time);
     default:

@@ -156,6 +156,15 @@ bool read_u8(struct word w, uint8_t *n)
     return true;
 }
 
+bool read_u16(struct word w, uint16_t *n)
+{
+    uint64_t wide;
+    if (!read_unsigned(w, UINT16_MAX, &wide))
+        return false;
+    *n = (uint16_t)wide;
+    return true;
+}
+
 bool read_u32(struct word w, uint32_t *n)
 {
     uint64_t wide;

@@ -42,6 +42,7 @@ bool read_bool(struct word w, bool *yes);
 /* Rust's parse of a whole number: decimal digits, as many as one likes, in the
  * type's range. A plus sign is allowed, a minus sign only for signed types. */
 bool read_u8(struct word w, uint8_t *n);
+bool read_u16(struct word w, uint16_t *n);
 bool read_u32(struct word w, uint32_t *n);
 bool read_u64(struct word w, uint64_t *n);
 bool read_i8(struct word w, int8_t *n);

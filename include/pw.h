@@ -151,7 +151,7 @@ extern "C" {
 #endif
 
 /* The version of this interface; pw.pc has the same. */
-#define PW_VERSION "0.7"
+#define PW_VERSION "0.8"
 
 /* ======== refusals ======== */
 
@@ -366,10 +366,11 @@ struct pw_clock {
 #define PW_MAIN_WH 1
 #define PW_MAIN_VAH 2
 
-/* Settings. There is no order for them yet: they keep what a meter just made
+/* Settings, which pw_set_settings changes; behind each what a meter just made
  * has. */
 struct pw_settings {
-    bool comp;       /* the meter's own drop is taken off; no */
+    bool comp;       /* the meter's own drop is taken off, except in the
+                      * alternating method; no */
     float r_path[3]; /* ohms of its path for A, mA, uA; 0.01, 0.5, 47.5 */
     float i_cont;    /* the limit of the continuous current; 6.0 A */
     uint16_t t_lim;  /* seconds allowed above it, 0 for no limit; 30 */
@@ -539,7 +540,8 @@ struct pw_readouts {
 };
 
 /* Power, apparent and reactive power, power factor, volts and amperes: at the
- * load where settings.comp, else as measured. In W, VA, var, 1, V and A. */
+ * load where settings.comp and not in the alternating method, else as measured.
+ * In W, VA, var, 1, V and A. */
 struct pw_figures {
     float p;
     float s;
@@ -603,8 +605,9 @@ struct pw_split {
  * the alternating method; s, q and pf in AC coupling of the simultaneous method
  * where the AC part of voltage or current is below its floor; vdc in AC
  * coupling and in the alternating method, idc in AC coupling; p_avg as said.
- * Every other float is a number, unless words and description are so far from
- * any bench that a square of volts or amperes passes 3.4e38. */
+ * Every other float is a number, unless words, description or settings are so
+ * far from any bench that a product of volts, amperes and ohms passes 3.4e38,
+ * or a resistance of the settings is no number: see pw_set_settings. */
 struct pw_power_vals {
     struct pw_figures load;
     float vdc; /* the DC parts as measured */
@@ -759,6 +762,33 @@ struct pw_step pw_energy_reset(struct pw_meter meter);
  * Returns: done, no mark; never refused. It carries no time.
  * Leaves:  `run` and nothing else. */
 struct pw_step pw_run(struct pw_meter meter, bool run);
+
+/* Sets the settings, all five at once. To change one of them, take a copy of
+ * meter.settings, change that one in it, and hand the copy over.
+ *
+ * Takes:   any settings: every float and every number; `comp` must be 0 or 1,
+ *          as C's is. t_lim 0 is no limit, and a main readout above PW_MAIN_VAH
+ *          is the power. Nothing is tested, so a host looks at what its user
+ *          has typed itself.
+ * Returns: done, no mark; never refused: on or off, in a job too. It carries no
+ *          time.
+ * Leaves:  `settings` and nothing else: energies, ranges, a running job and a
+ *          current that is above its limit stay as they are. What is read off
+ *          the meter follows the new ones at once, and a reading from the next
+ *          frame on. Energy follows them one accounted frame later: the next
+ *          one still counts its interval at the powers found with the old ones.
+ *          i_cont is looked at by accounted frames alone.
+ *
+ * A NaN in r_path counts only in the current ranges of its unit. There burden_v
+ * is a NaN; and where the drop is taken off the power is a NaN too, with v_dc,
+ * p_dc and p_ac of `split`, while volts, and VA, var and power factor where
+ * there are any, are 0.0: no energy is counted at that. A resistance that is
+ * infinite or very large makes figures as wrong: NaNs and infinities, at which
+ * nothing is counted, or powers that soon fill an energy (PW_FULL). With a NaN
+ * in i_cont no current is above the limit and none below it: a count that has
+ * begun goes on, and none begins. */
+struct pw_step pw_set_settings(struct pw_meter meter,
+                               struct pw_settings settings);
 
 /* Re-applies, which the host does when cal_req is set.
  *

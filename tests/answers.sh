@@ -77,10 +77,9 @@ first_question() {
         END { print found ? found : NR }' "$1"
 }
 
-# calls SCRIPT: the calls to a meter among its lines; the order `set` is not among them, since pwscript does not
-# serve it.
+# calls SCRIPT: the calls to a meter among its lines.
 calls() {
-    grep -a -E '^(meter|on|off|method|ranges|coupling|zero|gain|phase|ereset|run|reapply|frame)( |$)' "$1"
+    grep -a -E '^(meter|on|off|method|ranges|coupling|zero|gain|phase|ereset|run|set|reapply|frame)( |$)' "$1"
 }
 
 # with_hashes CALLS: each call, and behind it `hash`.
@@ -113,9 +112,9 @@ same_answers() {
     done
 }
 
-# What calls of every kind meet: the refusals, each end that a job of each kind and a phase calibration can have, and
-# the paths that a frame can take.
-every_case=(refusal\ {1..8} "end zero "{OK,SIGNAL,ABORT,METHOD} "end gain "{OK,SMALL,BIG,UNSTABLE,RANGE,ABORT,METHOD}
+# What calls of every kind meet: the refusals, each end that a job of each kind and a phase calibration can have,
+# the paths that a frame can take, and settings while on, while off and in a job.
+every_case=(refusal\ {1..8} "set "{on,off,job} "end zero "{OK,SIGNAL,ABORT,METHOD} "end gain "{OK,SMALL,BIG,UNSTABLE,RANGE,ABORT,METHOD}
     "path "{B,alternating,DC,job} "phase "{OK,FLAT,NOT_REACTIVE,RANGE})
 
 # oracle_answers QUESTIONS MET: the published Rust's answers, and what was met is added to MET (tests/coverage.c).

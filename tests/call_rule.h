@@ -13,7 +13,7 @@
 /* The calls, with what each is handed. */
 enum which {
     CALL_ON, CALL_OFF, CALL_METHOD, CALL_RANGES, CALL_COUPLING, CALL_ZERO, CALL_GAIN, CALL_PHASE, CALL_RESET, CALL_RUN,
-    CALL_REAPPLY, CALL_FRAME, CALLS
+    CALL_SET, CALL_REAPPLY, CALL_FRAME, CALLS
 };
 struct call {
     enum which which;
@@ -21,6 +21,7 @@ struct call {
     bool yes;            /* alternating; run */
     uint16_t v, i;       /* the ranges asked for */
     uint8_t byte;        /* the coupling; a frame's flags */
+    struct pw_settings settings;
     const uint8_t *lent; /* a frame's bytes */
     size_t length;
     bool reached; /* the meter is one that calls have led to */
@@ -31,7 +32,7 @@ struct call {
 /* "All but phase start, energy reset, run and settings carry a time." */
 static inline bool has_time(enum which w)
 {
-    return w != CALL_PHASE && w != CALL_RESET && w != CALL_RUN;
+    return w != CALL_PHASE && w != CALL_RESET && w != CALL_RUN && w != CALL_SET;
 }
 
 static inline bool is_job_start(enum which w)
@@ -158,7 +159,7 @@ static inline struct pw_step ordered(struct pw_meter pw, const struct call *c)
     }
 }
 
-/* Phase start, energy reset, run and re-apply, which end no job. */
+/* Phase start, energy reset, run, settings and re-apply, which end no job. */
 static inline struct pw_step ordered_in_job(struct pw_meter pw, const struct call *c)
 {
     switch (c->which) {
@@ -171,6 +172,9 @@ static inline struct pw_step ordered_in_job(struct pw_meter pw, const struct cal
         return without_more(pw, PW_DONE);
     case CALL_RUN:
         pw.clock.run = c->yes;
+        return without_more(pw, PW_DONE);
+    case CALL_SET:
+        pw.settings = c->settings;
         return without_more(pw, PW_DONE);
     default:
         pw.mode.cal_req = false;

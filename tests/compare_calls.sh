@@ -3,11 +3,12 @@
 # each, and before them those of tests/limits_calls.script and a counted time that is full. They are made to the
 # published Rust (../shared/oracle, built here) and to PROGRAM (build/pwscript), with a hash of the whole state after
 # each; byte for byte the same answers? Two seeds of three are of physical signals, jobs and orders (pwgen script), the
-# third is of tests/frame_lines.c. The order `set` is left out. At the first difference the shortest script that shows
-# it is printed (tests/shrink.sh).
+# third is of tests/frame_lines.c. At the first difference the shortest script that shows it is printed
+# (tests/shrink.sh).
 #
 # What was met is counted in the dumps of the published Rust after each call (tests/coverage.c). From 100,000 random
-# calls on, every refusal, every end of a job and of a phase calibration, and every path must be among it.
+# calls on, every refusal, every end of a job and of a phase calibration, every path, and settings while on, while off
+# and in a job must be among it.
 set -euo pipefail
 cd "$(dirname "$0")/.." || exit 1
 . tests/answers.sh

@@ -11,17 +11,18 @@
 #include <stdlib.h>
 #include <string.h>
 
-enum { FRAME, METER, METHOD, ZERO, GAIN, PHASE, ON, OFF, RANGES, COUPLING, ERESET, RUN, REAPPLY, KINDS };
+enum { FRAME, METER, METHOD, ZERO, GAIN, PHASE, ON, OFF, RANGES, COUPLING, ERESET, RUN, SET, REAPPLY, KINDS };
 static const char *const kinds[KINDS] = {
-    "frame", "meter", "method", "zero", "gain", "phase", "on", "off", "ranges", "coupling", "ereset", "run", "reapply",
+    "frame", "meter", "method", "zero", "gain", "phase", "on", "off", "ranges", "coupling", "ereset", "run", "set", "reapply",
 };
 
-enum { REFUSALS = 9, RESULTS = 10, CAL_RESULTS = 6, PATHS = 4 };
+enum { REFUSALS = 9, RESULTS = 10, CAL_RESULTS = 6, PATHS = 4, PLACES = 3 };
 static const char *const results[RESULTS] = {
     "NONE", "RUN", "OK", "SIGNAL", "SMALL", "BIG", "UNSTABLE", "RANGE", "ABORT", "METHOD",
 };
 static const char *const cal_results[CAL_RESULTS] = {"NONE", "RUN", "OK", "FLAT", "NOT_REACTIVE", "RANGE"};
 static const char *const paths[PATHS] = {"B", "alternating", "DC", "job"};
+static const char *const places[PLACES] = {"off", "on", "job"};
 
 static struct {
     uint64_t refused[KINDS][REFUSALS];
@@ -29,10 +30,12 @@ static struct {
     uint64_t taken[PATHS];
     uint64_t ended[3][RESULTS];
     uint64_t calibrated[CAL_RESULTS];
+    uint64_t set[PLACES];
 } met;
 
 /* What a dump says of a meter. */
 struct seen {
+    unsigned on;
     unsigned alt;
     unsigned dc;
     unsigned job;
@@ -98,7 +101,7 @@ static void take_answer(const char *line, FILE *questions)
     met.marked[call.kind] += strstr(line, " mark=-") == NULL ? 1 : 0;
     before = after;
     if (call.kind == METER && call.refusal == 0)
-        after = (struct seen){0, 0, 0, 0, 0, 0};
+        after = (struct seen){0, 0, 0, 0, 0, 0, 0};
 }
 
 /* The dump after a call is complete. */
@@ -115,12 +118,15 @@ static void take_dump(void)
         met.ended[call.kind == ZERO ? 1 : 2][after.job_res]++;
     if (before.cal != 0 && after.cal == 0 && call.kind == FRAME)
         met.calibrated[after.cal_res]++;
+    if (call.kind == SET)
+        met.set[before.job != 0 ? 2 : before.on]++;
 }
 
 /* A line of a dump; the meter is known whole at its last one. */
 static void take_state(const char *line)
 {
     if (strncmp(line, "D1 ", 3) == 0) {
+        after.on = value(line, "D1 on=", 2);
         after.alt = value(line, " alt=", 2);
         after.dc = value(line, " dc=", 2);
     } else if (strncmp(line, "D4 ", 3) == 0) {
@@ -155,6 +161,8 @@ static void put_counts(FILE *counts)
     }
     for (unsigned k = 0; k < CAL_RESULTS; k++)
         put(counts, met.calibrated[k], "phase", cal_results[k], "");
+    for (unsigned k = 0; k < PLACES; k++)
+        put(counts, met.set[k], "set", places[k], "");
 }
 
 int main(int argc, char **argv)

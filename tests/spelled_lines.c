@@ -11,13 +11,14 @@
 static const char *const lines[] = {
     "meter " ONES " 0 1 z73", "meter " ONES " 1 0 3f800000", "on 5", "off 7", "method 9 1", "method 9 0", "ranges 10 k a",
     "ranges 11 2 3", "ranges 12 a k", "ranges 13 255 0", "coupling 14 1", "coupling 15 3", "zero 16", "gain 17", "phase",
-    "ereset", "run 1", "run 0", "reapply 20", "frame 21 1c 00112233445566778899aabbccdd", "frame 22 18 -",
+    "ereset", "run 1", "run 0", "set 1 3c23d70a 3f000000 423e0000 40c00000 30 0", "set 0 nan 7f800001 ff800000 FFC00001 65535 255",
+    "set 1 +c23d70a 00000000 80000000 nan +0 +2", "reapply 20", "frame 21 1c 00112233445566778899aabbccdd", "frame 22 18 -",
     "frame 23 04 0011", "frame 281474976710655 1c 0000000000000000000000000000", "on 281474976710656",
     "frame 18446744073709551615 ff ffffffffffffffffffffffffffff", "dump", "dump on", "dump off", "hash",
 };
 static const char *const pieces[] = {
     " ", "  ", "\t", "\v", "\f", "\r", "+", "-", "0", "1", "9", "a", "k", "K", "z", "g", "x", ".", "#", "?", "00", "1c", "1C", "+1",
-    "-0", "nan", "255", "256", "on", "off", "hash", "dump", "frame", "281474976710656", "18446744073709551616", "\x01",
+    "-0", "nan", "255", "256", "65535", "65536", "on", "off", "hash", "dump", "frame", "281474976710656", "18446744073709551616", "\x01",
 };
 
 /* A line as it is spelled so far. */

@@ -190,7 +190,14 @@ for line in x 'on' 'on ' 'on x' 'on 1 ' 'on  1' ' on 1' 'on 1 1' 'on -1' 'on +1'
     'on 18446744073709551616' 'on 99999999999999999999' 'end 1' 'end' dump hash 'f sqrt 40400000' '?' '= 1' 'off' 'zero' 'gain 1 1' \
     'reapply' 'method 1' 'method 1 2' 'method 1 01' 'coupling 1' 'coupling 1 256' 'coupling 1 -1' 'coupling 1 a' 'ranges 1 k' \
     'ranges 1 k b' 'ranges 1 256 k' 'ranges 1 k k k' 'ranges 1 kk k' 'phase 1' 'phases' 'ereset 0' 'run' 'run 2' 'run 1 0' \
-    'set 0 3c23d70a 3f000000 423e0000 40a00000 60 1' \
+    'set' 'set 0' 'set 0 3c23d70a 3f000000 423e0000 40a00000 60' 'set 0 3c23d70a 3f000000 423e0000 40a00000 60 1 0' \
+    'set 0 3c23d70a 3f000000 423e0000 60 1' 'set 2 3c23d70a 3f000000 423e0000 40a00000 60 1' \
+    'set 01 3c23d70a 3f000000 423e0000 40a00000 60 1' 'set 0 3c23d70 3f000000 423e0000 40a00000 60 1' \
+    'set 0 3c23d70a 3f000000g 423e0000 40a00000 60 1' 'set 0 3c23d70a 3f000000 nan 40a00000 60 1' \
+    'set 0 3c23d70a 3f000000 423e0000 +0a00000 60 1' 'set 0 3c23d70a 3f000000 423e0000 40a00000 65536 1' \
+    'set 0 3c23d70a 3f000000 423e0000 40a00000 -1 1' 'set 0 3c23d70a 3f000000 423e0000 40a00000 60 256' \
+    'set 0 3c23d70a 3f000000 423e0000 40a00000 60 +1' 'set 0  3c23d70a 3f000000 423e0000 40a00000 60 1' \
+    'set 5 0 3c23d70a 3f000000 423e0000 40a00000 60 1' 'Set 0 3c23d70a 3f000000 423e0000 40a00000 60 1' \
     'frame 1' 'frame 1 1c' 'frame 1 1c ' 'frame 1 1 00' 'frame 1 1g 00' 'frame 1 1c 0' 'frame 1 1c 000' 'frame 1 1c 0g' \
     'frame 1 1c -0' 'frame 1 1c 00 00' 'frame 1c 00' 'frame 1 01c 00' 'frame 1 1c\0000'; do
     wrong_line "$line"
@@ -241,10 +248,19 @@ good 'a meter alone' 'energy 0.0000 mWh' 'apparent energy 0.0000 VAh' 'time coun
     'jobs none' 'calls 0, of them 0 frames' 'readings 0' 'refusals met none' 'mean power none: .*' \
     'in bits e=0,00000000 va=0,00000000 t_int=0 p_avg=nan'
 recording "$first# x\n\n${meter}on 0\noff 1\nmethod 2 1\nmethod 3 0\nranges 4 k a\nranges 5 255 0\ncoupling 6 255\nzero 7\ngain 8\n\
-phase\nereset\nrun 0\nrun 1\nreapply 9\nframe 10 fF 0aFF\nframe 11 00 -\n\
+phase\nereset\nrun 0\nrun 1\nset 0 3c23d70a 3f000000 423e0000 40a00000 60 1\nset 1 7FC00000 ff800001 80000000 7f800000 65535 255\n\
+reapply 9\nframe 10 fF 0aFF\nframe 11 00 -\n\
 frame 281474976710656 00 -\non 18446744073709551615\n"
-good 'every kind of call' 'calls 18, of them 3 frames' ' 1 off 3, first in line 12' ' 4 frame 2, first in line 19' \
-    ' 5 late 2, first in line 21'
+good 'every kind of call' 'calls 20, of them 3 frames' ' 1 off 3, first in line 12' ' 4 frame 2, first in line 21' \
+    ' 5 late 2, first in line 23'
+
+# The drop over 10 ohms taken off from the fourth second on, then over a resistance that is no number, at which nothing is
+# counted: the published Rust's figures.
+watts="1c ffff7f0000001027000000000000"
+rest="3f000000 423e0000 40c00000 30 0"
+recording "$first${meter}on 0\nranges 0 3 5\nframe 1000 $watts\nframe 2000 $watts\nframe 3000 $watts\nset 1 41200000 $rest\n\
+frame 4000 $watts\nframe 5000 $watts\nset 1 7fc00000 $rest\nframe 6000 $watts\nframe 7000 $watts\n"
+good 'settings' 'in bits e=2610515,00000000 va=2610514,3f600000 t_int=5000 p_avg=44028698' 'readings 6' 'refusals met none'
 
 # A current that no energy can hold: refused as full, and the energy as before.
 words=$(printf '497423f0%.0s' {1..73}) tiny=35800000

@@ -3,7 +3,8 @@
  * Each struct's size, alignment and offsets are worked out here from the types of its fields by the rules of the
  * System V ABI, and compared with what the C compiler says. Then the library's side: a meter in which every value
  * has a number of its own (leaf_numbered_meter) is read field by field, one that is written field by field is what
- * the library takes for it (leaf_is_numbered), and with any one bit of any value changed it is not.
+ * the library takes for it (leaf_is_numbered), and with any one bit of any value changed it is not. The same of
+ * settings that are handed over beside a meter.
  *
  * The last line counts the checks, and the status is 1 where one failed. */
 #include "checks.h"
@@ -358,11 +359,51 @@ static void check_written(struct pw_meter written)
             }
 }
 
+/* ---- settings beside a meter ---- */
+
+/* The settings of the meter as an argument of their own, with other bytes between their values. */
+static struct pw_settings handed_over(const struct pw_meter *pw, uint8_t between)
+{
+    struct pw_settings s;
+    memset(&s, between, sizeof s);
+    s.comp = pw->settings.comp;
+    memcpy(s.r_path, pw->settings.r_path, sizeof s.r_path);
+    s.i_cont = pw->settings.i_cont;
+    s.t_lim = pw->settings.t_lim;
+    s.main = pw->settings.main;
+    return s;
+}
+
+/* To a meter that has every value but its settings, whose bytes are `between`. Each one must come from the argument, and
+ * any one bit of one that is changed there is told apart. */
+static void check_settings(struct pw_meter written, uint8_t between)
+{
+    struct pw_meter other = written;
+    memset(&other.settings, between, sizeof other.settings);
+    other.settings.comp = !written.settings.comp;
+    expect(!leaf_is_numbered(other), "a meter with other settings");
+    expect(leaf_is_numbered(pw_set_settings(other, handed_over(&written, between)).meter), "settings where C hands them over");
+    size_t first = offsetof(struct pw_meter, settings), bits = 0;
+    for (const struct field *f = fields; f < fields + FIELDS; f++)
+        for (size_t k = 0; f->at >= first && f->at < first + sizeof other.settings && k < f->count; k++)
+            for (unsigned bit = 0; bit < (is_bool(f) ? 1 : 8 * size_of(f->kind)); bit++, bits++) {
+                struct pw_meter changed = written;
+                set_value(&changed, f, k, value_of(&written, f, k) ^ UINT64_C(1) << bit);
+                struct pw_step step = pw_set_settings(written, handed_over(&changed, between));
+                if (!expect(!leaf_is_numbered(step.meter) && value_of(&step.meter, f, k) == value_of(&changed, f, k),
+                            "a bit of settings that is not handed over"))
+                    printf("  %s %zu, bit %u\n", f->key, k, bit);
+            }
+    expect(bits == 1 + 4 * 32 + 16 + 8, "as many bits as settings have");
+}
+
 int main(void)
 {
     check_layout();
     check_written(check_read(0x00));
     check_written(check_read(0xFF));
     check_written(check_read(0x5A));
+    check_settings(check_read(0x00), 0xFF);
+    check_settings(check_read(0x5A), 0x00);
     return tell_checks("test_layout");
 }

@@ -53,6 +53,8 @@ static struct pw_step called(struct pw_meter pw, const struct call *c)
         return pw_energy_reset(pw);
     case CALL_RUN:
         return pw_run(pw, c->yes);
+    case CALL_SET:
+        return pw_set_settings(pw, c->settings);
     case CALL_REAPPLY:
         return pw_reapply(pw, c->time);
     default:
@@ -90,7 +92,7 @@ static void forget_unset(struct pw_meter *pw)
 static void expect_step(struct pw_step expected, struct pw_step got, enum which which)
 {
     static const char *const names[CALLS] = {"on", "off", "method", "ranges", "coupling", "zero job", "gain job",
-                                             "phase start", "energy reset", "run", "re-apply", "frame"};
+                                             "phase start", "energy reset", "run", "settings", "re-apply", "frame"};
     const struct pw_answer *e = &expected.answer, *g = &got.answer;
     if (which == CALL_RESET || e->has_reading) {
         forget_unset(&expected.meter);
@@ -114,7 +116,8 @@ static uint64_t met_refusals[CALLS][9], met_pairs[CALLS][9][9];
 enum met {
     MARKED, READ_B, READ_ALT, READ_DC, READ_MARKED, STOPPED, CLOCK_BACK, FULL_E, FULL_VA, FULL_TIME, ALT_E_KEPT, OVER_SET,
     OVER_CLEARED, OVER_KEPT, PHASE_ROUND, JOB_ENDED, JOB_COUNTED, APPLIED_V, APPLIED_I, APPLIED_BOTH, RANGES_SAME,
-    COUPLING_STALE, COUPLING_OFF, END_BY_ORDER, END_WHILE_OFF, CASES
+    COUPLING_STALE, COUPLING_OFF, END_BY_ORDER, END_WHILE_OFF, SET_ON, SET_OFF, SET_IN_JOB, SET_NAN, SET_NO_LIMIT, SET_MAIN,
+    CASES
 };
 static uint64_t met[CASES];
 
@@ -169,6 +172,18 @@ static void count_order(const struct pw_meter *pw, const struct call *c, const s
     count(JOB_COUNTED, done && pw->job.job != 0 && e->meter.job.job_n == pw->job.job_n + 1);
 }
 
+/* Settings that are other ones: on, off and in a job; a NaN in each place, no limit, a main readout past the last. */
+static void count_settings(const struct pw_meter *pw, const struct pw_settings *s)
+{
+    bool nans = isnan(s->r_path[0]) && isnan(s->r_path[1]) && isnan(s->r_path[2]) && isnan(s->i_cont);
+    count(SET_ON, pw->mode.on && pw->settings.comp != s->comp);
+    count(SET_OFF, !pw->mode.on && pw->settings.comp != s->comp);
+    count(SET_IN_JOB, pw->job.job != 0 && pw->settings.comp != s->comp);
+    count(SET_NAN, nans && !isnan(pw->settings.r_path[0]) && !isnan(pw->settings.i_cont));
+    count(SET_NO_LIMIT, s->t_lim == 0 && pw->settings.t_lim != 0);
+    count(SET_MAIN, s->main > PW_MAIN_VAH && pw->settings.main != s->main);
+}
+
 static void count_call(const struct pw_meter *pw, const struct call *c, const struct pw_step *e)
 {
     met_refusals[c->which][e->answer.refusal]++;
@@ -176,6 +191,8 @@ static void count_call(const struct pw_meter *pw, const struct call *c, const st
         for (uint8_t b = 1; b < a; b++)
             met_pairs[c->which][a][b] += has_reason(a, pw, c) && has_reason(b, pw, c) ? 1 : 0;
     count_order(pw, c, e);
+    if (c->which == CALL_SET)
+        count_settings(pw, &c->settings);
     if (c->which == CALL_FRAME) {
         count_reading(pw, c, e);
         if (e->answer.refusal == PW_FULL)
@@ -223,6 +240,35 @@ static uint64_t some_time(uint64_t *state)
     return next(state) >> (once_in(state, 8) ? below(state, 16) : 16 + below(state, 40));
 }
 
+/* A NaN of any sign and payload. */
+static float some_nan(uint64_t *state)
+{
+    uint64_t r = next(state);
+    return float_of(0x7F800001 + (uint32_t)(r >> 32) % 0x7FFFFF + ((uint32_t)r & UINT32_C(0x80000000)));
+}
+
+/* Any bits; now and then a NaN in each float, no limit, or a main readout that there is. */
+static struct pw_settings some_settings(uint64_t *state)
+{
+    struct pw_settings s;
+    bool nans = once_in(state, 4);
+    memset(&s, (int)below(state, 256), sizeof s);
+    s.comp = once_in(state, 2);
+    for (size_t k = 0; k < 3; k++)
+        s.r_path[k] = nans ? some_nan(state) : some_float(state, 4);
+    s.i_cont = nans ? some_nan(state) : some_float(state, 4);
+    s.t_lim = (uint16_t)(once_in(state, 4) ? 0 : next(state));
+    s.main = (uint8_t)(once_in(state, 2) ? below(state, 4) : next(state));
+    return s;
+}
+
+/* Such as a bench has. */
+static struct pw_settings bench_settings(uint64_t *state)
+{
+    uint64_t r = next(state);
+    return (struct pw_settings){r >> 63 != 0, {0.01f, 0.5f, 47.5f}, fabsf(some_figure(r, 3)), (uint16_t)(r % 60), (uint8_t)(r % 3)};
+}
+
 static struct call some_call(uint64_t *state, uint8_t *bytes)
 {
     struct call c = {.which = (enum which)below(state, CALLS + 8), .time = some_time(state), .yes = once_in(state, 2)};
@@ -230,6 +276,8 @@ static struct call some_call(uint64_t *state, uint8_t *bytes)
     c.v = (uint16_t)(once_in(state, 4) ? next(state) : once_in(state, 2) ? 255 + below(state, 4) : below(state, 6));
     c.i = (uint16_t)(once_in(state, 4) ? next(state) : once_in(state, 2) ? 255 + below(state, 4) : below(state, 8));
     c.byte = (uint8_t)(c.which != CALL_FRAME ? next(state) : once_in(state, 4) ? next(state) : 0x1C);
+    if (c.which == CALL_SET)
+        c.settings = some_settings(state);
     c.length = once_in(state, 8) ? below(state, 40) : PW_FRAME_LENGTH;
     for (size_t k = 0; k < PW_FRAME_LENGTH; k++)
         bytes[k] = (uint8_t)next(state);
@@ -343,6 +391,8 @@ static void check_list(uint64_t *state, unsigned length)
         c.length = once_in(state, 100) ? c.length : PW_FRAME_LENGTH;
         c.time = once_in(state, 200) ? c.time : now;
         c.yes = c.which == CALL_METHOD ? once_in(state, 5) : !once_in(state, 5);
+        if (c.which == CALL_SET && !once_in(state, 3))
+            c.settings = bench_settings(state);
         c.reached = true;
         pw = check_call(pw, c);
         if (was != 0 && pw.job.job == 0) {

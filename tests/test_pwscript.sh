@@ -84,8 +84,8 @@ while read -r name; do
     bad "${line/f $name/f f $name}"
 done < tests/served
 
-# Lines of the protocol that are not served.
-for line in 'f knobs' 'set 1 3c23d70a 3f000000 423e0000 40c00000 30 0'; do bad "$line"; done
+# A line of the protocol that is not served.
+bad 'f knobs'
 
 # Bytes: too few, too many, half of one, no hex digit.
 for bytes in 0000 00 0 000080ff 00008 00008g 0x0080 '+00080' '-00080' '00 0080' '00\0000080'; do bad "f ad1 $bytes"; done
@@ -309,8 +309,8 @@ taken() { says "${meter}on 5\n$1\n" "$made$on$2\n"; }
 refused_call() { says "${meter}on 5\nhash\n$1\nhash\n" "$made$on$hash$2 mark=- used=0 reading=0\n$hash"; }
 not_understood() { says "${meter}on 5\nhash\n$1\nhash\n" "$made$on$hash?\n$hash"; }
 frame14=00112233445566778899aabbccdd
-calls=('on 9' 'off 9' 'method 9 1' 'ranges 9 1 2' 'coupling 9 3' 'zero 9' 'gain 9' 'phase' 'ereset' 'run 0' 'reapply 9' \
-    "frame 9 1c $frame14" 'frame 9 1c -')
+calls=('on 9' 'off 9' 'method 9 1' 'ranges 9 1 2' 'coupling 9 3' 'zero 9' 'gain 9' 'phase' 'ereset' 'run 0' \
+    'set 1 3c23d70a 3f000000 423e0000 40c00000 30 0' 'reapply 9' "frame 9 1c $frame14" 'frame 9 1c -')
 
 # None before a meter is made, nor after a refused one; nor a dump or a hash.
 for line in "${calls[@]}" dump hash 'f ring_text'; do
@@ -344,6 +344,39 @@ for time in -1 -0 + - 18446744073709551616 99999999999999999999 1.0 1e3 0x9 9a n
         case $line in *\ 9*) not_understood "${line/ 9/ $time}" ;; esac
     done
 done
+
+# Settings: a mark, four floats, 16 bits and 8. settings_are LINE EXPECTED: those of the dump after it.
+settings_are() {
+    printf '%b' "${meter}on 5\n$1\ndump\n" > "$work/in"
+    "$program" < "$work/in" > "$work/out"
+    [ "$(sed -n 3p "$work/out")" = '0 mark=- used=0 reading=0' ] && grep -q "^D3 .* $2\$" "$work/out"
+    count "$1" $?
+}
+settings_are 'set 1 3c23d70a 3f000000 423e0000 40c00000 30 0' 'comp=1 r_path=3c23d70a,3f000000,423e0000 i_cont=40c00000 t_lim=30 main=0'
+settings_are 'set 0 BF800000 80000000 00000001 ff7fffff 65535 255' \
+    'comp=0 r_path=bf800000,80000000,00000001 i_cont=ff7fffff t_lim=65535 main=255'
+settings_are 'set 1 +f800000 7f800000 ff800000 +0000000 +00000 +000' \
+    'comp=1 r_path=0f800000,7f800000,ff800000 i_cont=00000000 t_lim=0 main=0'
+settings_are 'set 0 nan 7f800001 ffffffff 7FC00000 00000000000000000000065535 3' 'comp=0 r_path=nan,nan,nan i_cont=nan t_lim=65535 main=3'
+set_bad() { not_understood "set $*"; }
+for mark in 2 -1 +1 +0 00 01 10 true yes nan - k a '1\0000'; do set_bad "$mark" "$one" "$one" "$one" "$one" 30 0; done
+for float in 0 3f80000 3f8000000 3f80000g 0x3f8000 -3f80000 +3f800000 ++f80000 NaN nan0 inf 1.0 - '3f80\0000000'; do
+    set_bad 1 "$float" "$one" "$one" "$one" 30 0
+    set_bad 1 "$one" "$float" "$one" "$one" 30 0
+    set_bad 1 "$one" "$one" "$float" "$one" 30 0
+    set_bad 1 "$one" "$one" "$one" "$float" 30 0
+done
+for number in -1 -0 + - ++1 +-1 99999999999999999999 18446744073709551616 1.0 1e1 0x1 1a a nan '1\0000'; do
+    set_bad 1 "$one" "$one" "$one" "$one" "$number" 0
+    set_bad 1 "$one" "$one" "$one" "$one" 30 "$number"
+done
+for number in 65536 +65536 131072 4294967296; do set_bad 1 "$one" "$one" "$one" "$one" "$number" 0; done
+for number in 256 +256 65535 65536; do set_bad 1 "$one" "$one" "$one" "$one" 30 "$number"; done
+for words in '' 1 "1 $one" "1 $one $one $one $one" "1 $one $one $one 30 0" "1 $one $one $one $one $one 30 0" "9 1 $one $one $one $one 30 0" \
+    "$one $one $one $one 30 0 1" "1 $one $one $one $one 0 0 0" "1 $one,$one,$one $one 30 0" "1 $one$one$one $one 30 0"; do
+    set_bad "$words"
+done
+for name in sets SET settings setting se t; do not_understood "$name 1 $one $one $one $one 30 0"; done
 
 # Marks, ranges, couplings.
 for mark in 2 -1 +1 +0 00 01 10 true yes - k a; do

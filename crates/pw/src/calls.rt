@@ -1,7 +1,7 @@
 // The calls on a meter that the host keeps by value: include/pw.h describes each.
 ghost use mathlib.Core.Path.{_≡_};
 ghost use Rattle.meter.specs.Making.{make};
-ghost use Rattle.meter.specs.Calls.{step, On, Off, Method, SetRanges, Coupling, ZeroJob, GainJob, PhaseStart, EnergyReset, Run, Reapply, Frame};
+ghost use Rattle.meter.specs.Calls.{step, On, Off, Method, SetRanges, Coupling, ZeroJob, GainJob, PhaseStart, EnergyReset, Run, SetSettings, Reapply, Frame};
 ghost use Rattle.host.specs.Stepped.{askOf, hostStep, hostMade};
 use host::stepped::HostMade;
 use host::stepped::HostStep;
@@ -18,6 +18,7 @@ use meter::frame::open_frame;
 use orders::answer::Reading;
 use refusals::Refusal;
 use state::Pw;
+use state::Settings;
 use tables::description::Description;
 
 #[no_mangle]
@@ -97,6 +98,13 @@ pub extern "C" fn pw_run(meter: Pw, run: bool) -> HostStep
     ensures { λ r. ⌜ r ≡ hostStep (step meter (Run run)) ⌝ }
 {
     host_step(orders::starts::set_run(meter, run))
+}
+
+#[no_mangle]
+pub extern "C" fn pw_set_settings(meter: Pw, settings: Settings) -> HostStep
+    ensures { λ r. ⌜ r ≡ hostStep (step meter (SetSettings settings)) ⌝ }
+{
+    host_step(orders::starts::set_settings(meter, settings))
 }
 
 #[no_mangle]
