@@ -8,3 +8,4 @@ pub mod Counts
 pub mod InForce
 pub mod Demand3
 pub mod Program
+pub mod Sample
