@@ -15,9 +15,9 @@ use Rattle.steps.specs.declared.place.Kind.the-variants.{Zero, Gain}
 use Rattle.steps.specs.declared.verdict.RawVerdict.{RawVerdict}
 use Rattle.steps.specs.declared.verdict.RawVerdict.the-variants.{Small, Big, Fair}
 use Rattle.steps.specs.Place.{zeroSteps, layoutOf}
-use Rattle.steps.specs.Reading.{Zeros, oldOf, signal}
+use Rattle.steps.specs.Reading.{Zeros}
 use Rattle.jobs.specs.declared.bench.Bench.{Bench}
-use Rattle.book.specs.Book.{measures, drops, begins, first, Setting, dcOf, Outcome, going, struck, zeroed, gained, thirteen, rawOut, gainOut, verdictOf, ratioOf, finished, outcome}
+use Rattle.book.specs.Book.{measures, drops, begins, first, Setting, dcOf, Outcome, going, struck, zeroed, gained, thirteen, rawOut, gainOut, verdictOf, ratioOf, finished, signalAt, outcome}
 use Rattle.book.proofs.Lists.{begins-mono, dc-old}
 use Rattle.book.proofs.Relation.{layIn, Serving, three-steps, after-begin, before-next, outcome-is}
 use Rattle.book.proofs.Serve.{four}
@@ -31,7 +31,7 @@ module _ (c : Setting) (t : Bench) (r : Ranges) (fs : List Codes) (f : Codes) wh
   pub zero-length : Serving c t Zero r fs → (z : Zeros) → outcome Zero c fs f ≡ zeroed z → suc (length fs) ≡ 52
   unfolding finished
   zero-length sv z e =
-      go (ltb (length fs) (first zeroSteps s)) (signal (measures zeroSteps s) (oldOf (c .zeros) s) f) (ltb (suc (length fs)) (begins zeroSteps (suc s))) (ltb s 12) refl refl
+      go (ltb (length fs) (first zeroSteps s)) (signalAt c zeroSteps s f) (ltb (suc (length fs)) (begins zeroSteps (suc s))) (ltb s 12) refl refl
       (sym (outcome-is c t Zero r fs sv f) ∙ e)
     where
       go : (d q n u : Bool) → ltb (suc (length fs)) (begins zeroSteps (suc s)) ≡ n → ltb s 12 ≡ u
@@ -58,7 +58,7 @@ module _ (c : Setting) (t : Bench) (r : Ranges) (fs : List Codes) (f : Codes) wh
   pub gain-length : Serving c t Gain r fs → (g : Float) → outcome Gain c fs f ≡ gained g → suc (length fs) ≡ cond (dcOf c (fs ++ (f ∷ []))) 16 22
   unfolding finished
   gain-length sv g e =
-      go (ltb (length fs) (first (layIn Gain t) s)) (signal (measures (layIn Gain t) s) (oldOf (c .zeros) s) f) (ltb (suc (length fs)) (begins (layIn Gain t) (suc s))) (eqb (s % 2) 0) (ltb s 3) refl refl
+      go (ltb (length fs) (first (layIn Gain t) s)) (signalAt c (layIn Gain t) s f) (ltb (suc (length fs)) (begins (layIn Gain t) (suc s))) (eqb (s % 2) 0) (ltb s 3) refl refl
       (sym (outcome-is c t Gain r fs sv f) ∙ e)
     where
       go : (d q n v u : Bool) → ltb (suc (length fs)) (begins (layIn Gain t) (suc s)) ≡ n → ltb s 3 ≡ u

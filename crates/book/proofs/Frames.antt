@@ -27,7 +27,7 @@ use Rattle.jobs.specs.Bench.{kindIn, placeIn}
 use Rattle.jobs.specs.Step.{stepDone}
 use Rattle.jobs.specs.Frame.{summed, counted, dropped, servedBy, oneUsed, served, jobFrame}
 use Rattle.jobs.proofs.Counts.{one-more}
-use Rattle.book.specs.Book.{measures, begins, first, sumOf, Setting, readingAt, meanX, meanY, placeFor, Outcome, going, struck, zeroAt, finished, outcomeBy, outcome, serving, Book, book, settingOf, framed}
+use Rattle.book.specs.Book.{measures, begins, first, sumOf, Setting, readingAt, meanX, meanY, placeFor, Outcome, going, struck, zeroAt, finished, signalAt, outcomeBy, outcome, serving, Book, book, settingOf, framed}
 use Rattle.book.proofs.Lists.{both, ltb-same, sum-same, length-more, reading-old, reading-new}
 use Rattle.book.proofs.Relation.{Results, layIn, Serving, Rel, Good, kind-is, at-most-52, after-begin, few-frames, spot-place, place-in, outcome-is}
 use Rattle.book.proofs.Serve.{results-old, Full, struck-keeps, zero-done-keeps}
@@ -196,7 +196,7 @@ module _ (now : ℕ) (w : Calibration) (b : Book) (t : Bench) (k : Kind) (r : Ra
       (λ h. goes-on (dropped (oneUsed t))
       (record { zeros = rel .zeros; gains = rel .gains; bounded = rel .bounded; room = rel .room; runs = dropped-serves set t k r fs f sv (ltb-true 0 (t .cycle .skip) h) }))
       (λ h. let no-skip : t .cycle .skip ≡ 0 = omega (arith, ltb-false 0 (t .cycle .skip) h) in
-      both Kept (signal (placeIn (t .job)) (oldOf (zerosIn (t .corrections)) at) f) (signal (measures lay at) (oldOf (b .zeros) at) f) (cc (place-in set t k r fs sv, rel .zeros))
+      both Kept (signal (placeIn (t .job)) (oldOf (zerosIn (t .corrections)) at) f) (signalAt set lay at f) (cc (place-in set t k r fs sv, rel .zeros))
       (λ _. struck-keeps w b k r more (oneUsed t) jrSignal (rel .zeros) (rel .gains) (rel .bounded) (rel .room) (sv .save) (used-new set t k r fs f sv))
       (λ _. counted-keeps (readingOf (placeIn (t .job)) w (t .ranges .vr) (zerosIn (t .corrections)) f)
       (cc (place-in set t k r fs sv, rel .zeros, sv .vr, reading-new set lay fs f at (t .job .«job_n») (omega (arith, sv .len)))) no-skip))

@@ -89,11 +89,11 @@ sum-same (suc n) g h e =
 pub length-more : (fs : List Codes) (f : Codes) → length (fs ++ (f ∷ [])) ≡ suc (length fs)
 length-more fs f = length-append fs (f ∷ []) ∙ add-one (length fs)
 
-pub reading-old : (c : Setting) (l : Layout) (fs : List Codes) (f : Codes) (s j : ℕ) → first l s + j < length fs → readingAt c l (fs ++ (f ∷ [])) s j ≡ readingAt c l fs s j
-reading-old c l fs f s j h = ap (readingOf (measures l s) (c .calibration) (c .vr) (c .zeros)) (List·getD-append fs (f ∷ []) noFrame (first l s + j) h)
-
 pub reading-new : (c : Setting) (l : Layout) (fs : List Codes) (f : Codes) (s j : ℕ) → length fs ≡ first l s + j → readingAt c l (fs ++ (f ∷ [])) s j ≡ readingOf (measures l s) (c .calibration) (c .vr) (c .zeros) f
 reading-new c l fs f s j h = ap (readingOf (measures l s) (c .calibration) (c .vr) (c .zeros)) (getD-at fs f [] noFrame (first l s + j) h)
+
+pub reading-old : (c : Setting) (l : Layout) (fs : List Codes) (f : Codes) (s j : ℕ) → first l s + j < length fs → readingAt c l (fs ++ (f ∷ [])) s j ≡ readingAt c l fs s j
+reading-old c l fs f s j h = ap (readingOf (measures l s) (c .calibration) (c .vr) (c .zeros)) (List·getD-append fs (f ∷ []) noFrame (first l s + j) h)
 
 module _ (c : Setting) (l : Layout) (fs : List Codes) (f : Codes) (s : ℕ) (h : begins l (suc s) ≤ length fs) where
   pub mean-x-old : meanX c l (fs ++ (f ∷ [])) s ≡ meanX c l fs s

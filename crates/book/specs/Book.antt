@@ -163,11 +163,15 @@ finished Gain c fs s =
     cond (eqb (s % 2) 0) (rawOut (verdictOf c (dcOf c fs) fs s))
     (cond (ltb s 3) going (gainOut (ratioOf c (dcOf c fs) fs)))
 
+-- "further from the old zero (0 while none is stored)": the book's zeros are the old ones
+abbrev pub signalAt : Setting → Layout → ℕ → Codes → Bool
+signalAt c l s f = signal (measures l s) (oldOf (c .zeros) s) f
+
 -- a ready frame f after the frames fs, at step s: one of those dropped; or a signal where none may be; or not yet the step's third; or its third
 abbrev pub outcomeBy : Kind → Setting → List Codes → Codes → Layout → ℕ → Outcome
 outcomeBy k c fs f l s =
     cond (ltb (length fs) (first l s)) going
-    (cond (signal (measures l s) (oldOf (c .zeros) s) f) (struck jrSignal)
+    (cond (signalAt c l s f) (struck jrSignal)
     (cond (ltb (suc (length fs)) (begins l (suc s))) going (finished k c (fs ++ (f ∷ [])) s)))
 
 unfoldable pub outcome : Kind → Setting → List Codes → Codes → Outcome
