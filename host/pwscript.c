@@ -1,4 +1,4 @@
-/* pwscript: answers the script protocol of ../shared/oracle/README.md.
+/* pwscript: answers the script protocol (script.h).
  *
  * One command a line on standard input, its answer on standard output; with
  * --echo each line is written before its answer. Comments (#) and empty lines

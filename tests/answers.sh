@@ -3,7 +3,7 @@
 # tests/served holds the names of the functions that pwscript serves. The lines of these functions are
 # compared, and the `meter` lines between them, from which some of them read; nothing else says which.
 
-oracle_manifest=../shared/oracle/Cargo.toml
+. tests/where.sh
 oracle_folder=build/oracle/release
 
 fail() {

@@ -2,7 +2,7 @@
 # tests/compare.sh SEED LINES [PROGRAM]: LINES random lines of the figures with floats of any bits
 # (build/figure_lines), LINES of the formats and values (build/value_lines), LINES of calls that are spelled in any
 # way (build/spelled_lines), then LINES of served functions and of meters made, answered by the published Rust
-# (../shared/oracle, built here) and by PROGRAM (build/pwscript); byte for byte the same?
+# (built here) and by PROGRAM (build/pwscript); byte for byte the same?
 set -u -o pipefail
 cd "$(dirname "$0")/.." || exit 1
 . tests/answers.sh

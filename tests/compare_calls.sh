@@ -1,7 +1,7 @@
 #!/bin/bash
 # tests/compare_calls.sh SEED SEEDS CALLS [PROGRAM]: of so many seeds from SEED on, so many random calls to a meter
 # each, and before them those of tests/limits_calls.script and a counted time that is full. They are made to the
-# published Rust (../shared/oracle, built here) and to PROGRAM (build/pwscript), with a hash of the whole state after
+# published Rust (built here) and to PROGRAM (build/pwscript), with a hash of the whole state after
 # each; byte for byte the same answers? Two seeds of three are of physical signals, jobs and orders (pwgen script), the
 # third is of tests/frame_lines.c. At the first difference the shortest script that shows it is printed
 # (tests/shrink.sh).

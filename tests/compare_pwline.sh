@@ -1,5 +1,5 @@
 #!/bin/bash
-# tests/compare_pwline.sh PROGRAM SEED LINES: PROGRAM (pwline) and the published Rust (../shared/oracle)
+# tests/compare_pwline.sh PROGRAM SEED LINES: PROGRAM (pwline) and the published Rust
 # answer the same drawn lines: orders and frames at times at and beyond the limits, of right and wrong
 # lengths, and one in eight with bytes changed, lost or put in.
 set -euo pipefail

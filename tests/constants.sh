@@ -4,13 +4,13 @@
 # arrays here, and M. White space, underscores in numbers and the case of their letters do not count.
 # So are those of pw.h, where its names follow the published ones, the flags' bits too. The names of the units
 # in pw_names.c are those that the published functions use, the micro sign as u, and so are the texts of
-# pw_partial there and in tests/shown.h. It only reads the published text, ../shared/docs/src.
+# pw_partial there and in tests/shown.h. It only reads the published text.
 set -u -o pipefail
 cd "$(dirname "$0")/.." || exit 1
 . tests/answers.sh
 
-published=../shared/docs/src/firmware/src/powermeter.rs
-chip=../shared/docs/src/firmware/src/hy3131.rs
+published=$papers/src/firmware/src/powermeter.rs
+chip=$papers/src/firmware/src/hy3131.rs
 constants=crates/tables/src/constants.rt
 window=crates/tables/src/window.rt
 header=include/pw.h

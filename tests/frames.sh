@@ -1,6 +1,6 @@
 #!/bin/bash
 # tests/frames.sh SEED CALLS [PROGRAM]: CALLS random calls of physical signals, jobs and orders (pwgen script) and
-# twice CALLS of tests/frame_lines.c, made to the published Rust (../shared/oracle, built here) with a dump after each;
+# twice CALLS of tests/frame_lines.c, made to the published Rust (built here) with a dump after each;
 # does PROGRAM (build/frames) find that the leaves of a frame, of an apply, of the jobs and of the phase calibration
 # do the same, and that the same values are read off the meter after each? From 10,000 calls on each of its cases
 # must be met, the oftener the more calls there are.

@@ -1,7 +1,7 @@
 #!/bin/bash
 # tests/record.sh [SEED [LINES]]: writes the samples that replay.sh replays, the one of frames that
 # replay_frames.sh does, the answers that test_pwline.sh expects, and the licence figures of the day that
-# test_bench.sh replays. All answers are those of the published Rust (../shared/oracle); neither pwscript nor
+# test_bench.sh replays. All answers are those of the published Rust; neither pwscript nor
 # frames nor pwline has a part in it.
 set -u -o pipefail
 cd "$(dirname "$0")/.." || exit 1

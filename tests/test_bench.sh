@@ -1,6 +1,6 @@
 #!/bin/bash
 # tests/test_bench.sh BENCH RECORDING: the bench host BENCH over the day's RECORDING, whose figures must be the
-# published Rust's: live where ../shared/oracle and cargo are there, and as recorded in tests/recorded/day.figures;
+# published Rust's: live where its package and cargo are there, and as recorded in tests/recorded/day.figures;
 # over recordings that are short, damaged or wrong; and how it is called.
 set -euo pipefail
 cd "$(dirname "$0")/.." || exit 1
