@@ -9,3 +9,4 @@ pub mod InForce
 pub mod Demand3
 pub mod Program
 pub mod Sample
+pub mod Earned
