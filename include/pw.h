@@ -242,8 +242,9 @@ struct pw_stamp {
     uint64_t at;
 };
 
-/* What a meter is told of its hardware, when it is made. The shunts of
- * `settings` are others: those are ohms. */
+/* What a meter is told of its hardware, when it is made. `r_path` of the
+ * settings is another thing: ohms of the path, for the drop alone; it scales no
+ * current. */
 struct pw_description {
     float mv_div[2]; /* the current amplifier's gain, fine range and coarse */
     float shunt[3];  /* volts of one display unit: A, mA, uA */
@@ -362,7 +363,8 @@ struct pw_clock {
 };
 
 /* The main readout. */
-#define PW_MAIN_P 0 /* and every number above 2 */
+#define PW_MAIN_P 0 /* a readout takes every number above 2 for it, but not
+                     * pw_energy_val */
 #define PW_MAIN_WH 1
 #define PW_MAIN_VAH 2
 
@@ -772,21 +774,24 @@ struct pw_step pw_run(struct pw_meter meter, bool run);
  *          has typed itself.
  * Returns: done, no mark; never refused: on or off, in a job too. It carries no
  *          time.
- * Leaves:  `settings` and nothing else: energies, ranges, a running job and a
- *          current that is above its limit stay as they are. What is read off
- *          the meter follows the new ones at once, and a reading from the next
- *          frame on. Energy follows them one accounted frame later: the next
- *          one still counts its interval at the powers found with the old ones.
- *          i_cont is looked at by accounted frames alone.
+ * Leaves:  `settings` and nothing else: energies, ranges and a running job stay
+ *          as they are. comp, r_path, t_lim and main count at once in what is
+ *          read off the meter, and in a reading from the next frame on; i_cont
+ *          from the next accounted frame on. Energy follows comp and r_path one
+ *          accounted frame later: the next one still counts its interval at the
+ *          powers found with the old ones. Since when the current is above its
+ *          limit (over_t0) stays, and is kept also while t_lim is 0: a new
+ *          t_lim counts from there.
  *
  * A NaN in r_path counts only in the current ranges of its unit. There burden_v
- * is a NaN; and where the drop is taken off the power is a NaN too, with v_dc,
- * p_dc and p_ac of `split`, while volts, and VA, var and power factor where
+ * is a NaN; and where the drop is taken off the power is a NaN too, in AC+DC
+ * coupling with v_dc, p_dc and p_ac of `split`, while volts, and VA, var and power factor where
  * there are any, are 0.0: no energy is counted at that. A resistance that is
  * infinite or very large makes figures as wrong: NaNs and infinities, at which
  * nothing is counted, or powers that soon fill an energy (PW_FULL). With a NaN
  * in i_cont no current is above the limit and none below it: a count that has
- * begun goes on, and none begins. */
+ * begun goes on, and none begins. With 0.0 one that has begun never ends, and
+ * below 0.0 every current is above the limit. */
 struct pw_step pw_set_settings(struct pw_meter meter,
                                struct pw_settings settings);
 

@@ -14,7 +14,7 @@ use Rattle.refusals.specs.declared.Refusal.the-variants as refusal
 use Rattle.codes.specs.declared.Codes.{Codes}
 use Rattle.tables.specs.Bounds.{within}
 use Rattle.tables.specs.Constants.{jrAbort}
-use Rattle.tables.specs.Gain.{gainLeast, gainMost, plausible}
+use Rattle.tables.specs.Gain.{gainLeast, gainMost, plausible, vGain}
 use Rattle.tables.specs.declared.calibration.Calibration.{Calibration}
 use Rattle.tables.specs.declared.description.Description.{Description}
 use Rattle.state.specs.declared.Pw.{Pw}
@@ -25,16 +25,19 @@ use Rattle.steps.specs.Place.{ready}
 use Rattle.steps.specs.Reading.{Zeros}
 use Rattle.jobs.specs.declared.bench.Bench.{Bench}
 use Rattle.jobs.specs.Frame.{jobFrame}
+use Rattle.jobs.specs.declared.whole.Polled.{Polled}
+use Rattle.jobs.specs.Bench.{placeIn}
 use Rattle.jobs.specs.Whole.{benchIn, jobPolled}
+use Rattle.jobs.proofs.Stated.{not-ready}
 use Rattle.orders.specs.declared.answer.Step.{Step}
 use Rattle.orders.specs.Answer.{late, refusedWith}
 use Rattle.orders.specs.Apply.{aborted}
 use Rattle.orders.specs.Switches as switches
 use Rattle.orders.specs.Ranges.{rangesSet, setRanges}
 use Rattle.orders.specs.Starts.{startJob}
-use Rattle.orders.proofs.Stated.{aborted-running}
+use Rattle.orders.proofs.Stated.{aborted-none, aborted-running, aborted-idle}
 use Rattle.meter.specs.Making.{refuses, make}
-use Rattle.meter.specs.Frame.{polledStep}
+use Rattle.meter.specs.Frame.{withPoll, polledStep}
 use Rattle.meter.specs.Calls.{step, after, Call, On, Off, Method, SetRanges, Coupling, ZeroJob, GainJob, PhaseStart, EnergyReset, Run, Reapply, SetSettings, Frame}
 use Rattle.meter.specs.Table.{codesOf}
 use Rattle.meter.proofs.Stated.{in-job, in-job-leaves, outside-counts-none}
@@ -42,8 +45,9 @@ use Rattle.book.specs.Book.{RangeGain, earned, Running, idle, serving, B
 use Rattle.book.specs.Demand3.{runs, resultOf, Ended, Quiet, Agrees, fed, Demand3}
 use Rattle.book.proofs.Lists.{length-more}
 use Rattle.book.proofs.Relation.{Runs, Rel, few-frames}
-use Rattle.book.proofs.Frames.{frame-good, frame-same}
+use Rattle.book.proofs.Frames.{ready-same, frame-good, frame-same}
 use Rattle.book.proofs.Every.{Keeps, no-job, none-refused, reached}
+use Rattle.book.proofs.Seen.{frame-marks}
 use Rattle.book.proofs.Counts.{zero-length, gain-length}
 use Rattle.book.proofs.InForce.{in-force}
 
@@ -87,6 +91,10 @@ module _ (w : Calibration) (m : Pw) (b : Book) (h : Keeps w m b) where
       frame-is : s .answer .refusal ≡ refusal.Done → s ≡ polledStep (jobPolled m t flags f)
       frame-is d = in-job m t flags bytes busy d
 
+      not-ready-in : ready (placeFor set k fs) flags ≡ false → ready (placeIn (m .job)) flags ≡ false
+      unfolding benchIn
+      not-ready-in q = ready-same t w b (benchIn m) k r fs f rel-in flags ∙ q
+
       abbrev left : Bench
       left = jobFrame t w flags f (benchIn m) .bench
 
@@ -112,8 +120,15 @@ module _ (w : Calibration) (m : Pw) (b : Book) (h : Keeps w m b) where
       results : s .answer .refusal ≡ refusal.Done → ready (placeFor set k fs) flags ≡ true → s .pw .job .«job_res» ≡ resultOf (outcome k set fs f)
       results d q = res-is d ∙ frame-good t w b (benchIn m) k r fs f rel-in flags q .res
 
-      quiet-frame : Quiet m (s .pw)
-      quiet-frame = let l = in-job-leaves m t flags bytes busy in (l .0, l .4, l .1, l .2)
+      seen-is : s .answer .refusal ≡ refusal.Done → s .pw .cycle .seen ≡ m .cycle .seen
+      unfolding jobPolled benchIn
+      seen-is d = ap (λ (x : Step). x .pw .cycle .seen) (frame-is d) ∙ frame-marks t (m .calibration) flags f (benchIn m)
+
+      quiet-frame : s .answer .refusal ≡ refusal.Done → Quiet m (s .pw)
+      quiet-frame d = let l = in-job-leaves m t flags bytes busy in (l .0, l .4, l .1, seen-is d, l .2)
+
+      only-polled : s .answer .refusal ≡ refusal.Done → ready (placeFor set k fs) flags ≡ false → s .pw ≡ withPoll m t
+      only-polled d q = ap (λ (x : Step). x .pw) (frame-is d) ∙ ap (λ (x : Polled). x .pw) (not-ready m t flags f (not-ready-in q))
 
       -- the job has ended with it
       ends-with : (o : Outcome) (gs : List Codes) → entered k r gs o (b .zeros) (b .gain) .job ≡ idle → o ≡ going → ⊥
@@ -139,12 +154,17 @@ module _ (w : Calibration) (m : Pw) (b : Book) (h : Keeps w m b) where
 
     -- ---- an order
 
-    -- the five that end a job: where it is refused the job runs on; else it goes on from the aborted job
-    order-back : (l : Bool) (n : Step) → (cond (refuses (cond l (refusedWith refusal.Late m) n .answer .refusal)) b (strikes b)) .job ≡ idle
-        → (aborted m .ranges ≡ r) × (aborted m .job .«job_res» ≡ jrAbort) × (cond l (refusedWith refusal.Late m) n ≡ n)
+    -- a job that is ended is not ended again
+    twice : aborted (aborted m) ≡ aborted m
+    twice = aborted-idle (aborted m) (eq-eqb (aborted m .job .job) 0 (aborted-none m))
+
+    -- the five that end a job: where it is refused the job runs on; else it does what it does to the aborted one
+    order-back : (l : Bool) (n : Pw → Step) → cond (refuses (cond l (refusedWith refusal.Late m) (n (aborted m)) .answer .refusal)) b (strikes b) .job ≡ idle
+        → (aborted m .ranges ≡ r) × (aborted m .job .job ≡ 0) × (aborted m .job .«job_res» ≡ jrAbort)
+        × (cond l (refusedWith refusal.Late m) (n (aborted m)) ≡ cond l (refusedWith refusal.Late (aborted m)) (n (aborted (aborted m))))
     unfolding refusedWith benchIn
     order-back true n i = absurd (not-idle (b .job) e i)
-    order-back false n i = let a = aborted-running m busy in (a .1 ∙ rel-in .runs .save, a .0, refl)
+    order-back false n i = let a = aborted-running m busy in (a .1 ∙ rel-in .runs .save, aborted-none m, a .0, ap n (sym twice))
 
     -- a start begins one, or is refused
     start-back : (q : Kind) (u : Bool) → cond u b (started q (m .ranges) b) .job ≡ idle → ⊥
@@ -161,11 +181,11 @@ module _ (w : Calibration) (m : Pw) (b : Book) (h : Keeps w m b) where
 
     ended : (c : Call) → entry w (asked m c) c b .job ≡ idle → Ended c m r
     unfolding switches.on switches.off switches.method switches.coupling setRanges
-    ended (On t) i = order-back (late t) (switches.switchedOn (aborted m) t) i
-    ended (Off t) i = order-back (late t) (switches.switchedOff (aborted m)) i
-    ended (Method t alt) i = order-back (late t) (switches.methodSet (aborted m) t alt) i
-    ended (SetRanges t v j) i = order-back (late t) (rangesSet (aborted m) t v j) i
-    ended (Coupling t a) i = order-back (late t) (switches.couplingSet (aborted m) t a) i
+    ended (On t) i = order-back (late t) (λ y. switches.switchedOn y t) i
+    ended (Off t) i = order-back (late t) switches.switchedOff i
+    ended (Method t alt) i = order-back (late t) (λ y. switches.methodSet y t alt) i
+    ended (SetRanges t v j) i = order-back (late t) (λ y. rangesSet y t v j) i
+    ended (Coupling t a) i = order-back (late t) (λ y. switches.couplingSet y t a) i
     ended (ZeroJob t) i = start-back Zero (refused (ZeroJob t)) i
     ended (GainJob t) i = start-back Gain (refused (GainJob t)) i
     ended PhaseStart i = left-back (refused PhaseStart) i
@@ -185,11 +205,13 @@ module _ (w : Calibration) (m : Pw) (b : Book) (h : Keeps w m b) where
       record {
         zeros = h .rel .zeros;
         kept-gains = h .rel .gains;
-        gains = λ i i4. in-force w (m .corrections .vgain) i (b .gain i) i4 (h .rel .gains i i4) (h .rel .bounded i);
+        words = h .calibration;
+        gains = λ i i4. ap (λ (c : Calibration). vGain c (m .corrections .vgain) i) (h .calibration) ∙ in-force w (m .corrections .vgain) i (b .gain i) i4 (h .rel .gains i i4) (h .rel .bounded i);
         bounds = from-least-to-most;
         job = job-is (b .job) (h .rel .runs);
         back = λ c k r fs e i. ended k r fs e c i;
-        quiet = λ t flags bytes k r fs e d. quiet-frame k r fs e t flags bytes;
+        quiet = λ t flags bytes k r fs e d. quiet-frame k r fs e t flags bytes d;
+        not-ready = λ t flags bytes k r fs e d q. only-polled k r fs e t flags bytes d q;
         count = λ t flags bytes k r fs e d. counts k r fs e t flags bytes d;
         result = λ t flags bytes k r fs e d q. results k r fs e t flags bytes d q;
         outside = none-counted;

@@ -202,7 +202,7 @@ module _ (now : ℕ) (w : Calibration) (b : Book) (t : Bench) (k : Kind) (r : Ra
       (cc (place-in set t k r fs sv, rel .zeros, sv .vr, reading-new set lay fs f at (t .job .«job_n») (omega (arith, sv .len)))) no-skip))
 
   module _ (flags : ℕ) where
-    ready-same : ready (placeIn (t .job)) flags ≡ ready (placeFor set k fs) flags
+    pub ready-same : ready (placeIn (t .job)) flags ≡ ready (placeFor set k fs) flags
     ready-same = ap (λ (p : Place). ready p flags) (place-in set t k r fs sv ∙ sym (spot-place set t k r fs sv))
 
     -- ready: as the book's outcome

@@ -4,6 +4,7 @@ pub mod Serve
 pub mod Gains
 pub mod Frames
 pub mod Every
+pub mod Seen
 pub mod Counts
 pub mod InForce
 pub mod Demand3

@@ -34,4 +34,4 @@ unfolding hostMade
 program f h d words valid e cs =
     let m = make d words valid .pw in
     let same = ran-is f h m cs in
-    (same, subst (λ (n : Pw). Agrees (fed words valid) n (books (fed words valid) m cs blank)) (sym same) (demand3 d words valid (done-is (make d words valid .refusal) e) cs))
+    (same, λ c. h (ran f m cs) c ∙ ap (λ (n : Pw). hostStep (step n c)) same, subst (λ (n : Pw). Agrees (fed words valid) n (books (fed words valid) m cs blank)) (sym same) (demand3 d words valid (done-is (make d words valid .refusal) e) cs))

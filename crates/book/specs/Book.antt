@@ -1,4 +1,5 @@
 -- The book of document 01: "It holds the zeros, a gain for each range and a running job, at first none of these." A running job is its kind, the ranges and automatic marks found, and the ready frames that it has used. Which step a frame serves, what is dropped, readings, means, ratios and outcomes are worked out from that list.
+-- The formulas of one reading, one mean and one verdict are the source's as crates/steps renders them, and so is what a frame's bytes say; the steps and their order, the drops, the list, and what ends a job and how are written out here.
 use mathlib.Core.Bool.{Bool, cond}
 use mathlib.Core.List.{List, [], _∷_, _++_}
 use Prim.Native.Nat.{ℕ, zero, suc, _+_, _%_, min}
@@ -232,7 +233,7 @@ note w found (On t) b = strikes b
 note w found (Off t) b = strikes b
 note w found (Method t alt) b = strikes b
 note w found (SetRanges t v i) b = strikes b
-note w found (Coupling t asked) b = strikes b
+note w found (Coupling t coup) b = strikes b
 note w found (ZeroJob t) b = started Zero found b
 note w found (GainJob t) b = started Gain found b
 note w found PhaseStart b = b

@@ -19,11 +19,9 @@ use Rattle.steps.specs.declared.place.Kind.{Kind}
 use Rattle.steps.specs.declared.place.Kind.the-variants.{Zero, Gain}
 use Rattle.steps.specs.Place.{kindNumber, ready}
 use Rattle.steps.specs.Reading.{Zeros, zerosIn}
-use Rattle.orders.specs.declared.answer.Step.{Step}
 use Rattle.orders.specs.Apply.{aborted}
-use Rattle.orders.specs.Switches.{switchedOn, switchedOff, methodSet, couplingSet}
-use Rattle.orders.specs.Ranges.{rangesSet}
 use Rattle.meter.specs.Making.{make}
+use Rattle.meter.specs.Frame.{withPoll}
 use Rattle.meter.specs.Calls.{step, after, Call, On, Off, Method, SetRanges, Coupling, ZeroJob, GainJob, PhaseStart, EnergyReset, Run, Reapply, SetSettings, Frame}
 use Rattle.meter.specs.Table.{codesOf}
 use Rattle.book.specs.Book.{RangeGain, factory, earned, Running, idle, serving, Book, blank, asked, entry, books, settingOf, placeFor, Outcome, going, struck, zeroed, gained, outcome, dcOf}
@@ -59,13 +57,17 @@ resultOf (gained g) = jrOk
 
 -- ---- a job's end
 
--- "At each job's end in the list, ranges and marks become those noted, and the ending call goes on from there": an order goes on from the meter whose job is aborted, by what it does where no job runs; a frame does nothing more; no other call ends a job
+-- "At each job's end in the list, ranges and marks become those noted, and the ending call goes on from there". `aborted m` is m with its job ended and nothing else done: the order does to m what it does to that meter, in which no job runs
+abbrev pub GoesOn : Call → Pw → Ranges → Type 0
+GoesOn c m r = (aborted m .ranges ≡ r) × (aborted m .job .job ≡ 0) × (aborted m .job .«job_res» ≡ jrAbort) × (step m c ≡ step (aborted m) c)
+
+-- by an order, or by a frame, which does nothing more; no other call ends a job
 abbrev pub Ended : Call → Pw → Ranges → Type 0
-Ended (On t) m r = (aborted m .ranges ≡ r) × (aborted m .job .«job_res» ≡ jrAbort) × (step m (On t) ≡ switchedOn (aborted m) t)
-Ended (Off t) m r = (aborted m .ranges ≡ r) × (aborted m .job .«job_res» ≡ jrAbort) × (step m (Off t) ≡ switchedOff (aborted m))
-Ended (Method t alt) m r = (aborted m .ranges ≡ r) × (aborted m .job .«job_res» ≡ jrAbort) × (step m (Method t alt) ≡ methodSet (aborted m) t alt)
-Ended (SetRanges t v i) m r = (aborted m .ranges ≡ r) × (aborted m .job .«job_res» ≡ jrAbort) × (step m (SetRanges t v i) ≡ rangesSet (aborted m) t v i)
-Ended (Coupling t asked) m r = (aborted m .ranges ≡ r) × (aborted m .job .«job_res» ≡ jrAbort) × (step m (Coupling t asked) ≡ couplingSet (aborted m) t asked)
+Ended (On t) m r = GoesOn (On t) m r
+Ended (Off t) m r = GoesOn (Off t) m r
+Ended (Method t alt) m r = GoesOn (Method t alt) m r
+Ended (SetRanges t v i) m r = GoesOn (SetRanges t v i) m r
+Ended (Coupling t coup) m r = GoesOn (Coupling t coup) m r
 Ended (ZeroJob t) m r = ⊥
 Ended (GainJob t) m r = ⊥
 Ended PhaseStart m r = ⊥
@@ -77,9 +79,9 @@ Ended (Frame t flags bytes) m r = step m (Frame t flags bytes) .pw .ranges ≡ r
 
 -- ---- a frame in a job
 
--- "leaves energies and counted times as before, and smoothed values too": energies with their counted time, the last accounted time, the smoothed values, and the powers at which the next interval counts
+-- "leaves energies and counted times as before, and smoothed values too": energies with their counted time, the last accounted time, the smoothed values and which of them count (`seen`), and the powers at which the next interval counts. Document 01 goes on "save what the source resets in an apply or a job's end": no frame in a job applies, and a job's end resets none of these
 abbrev pub Quiet : Pw → Pw → Type 0
-Quiet m n = (n .tally ≡ m .tally) × (n .clock .«t_last» ≡ m .clock .«t_last») × (n .parts ≡ m .parts) × (n .powers ≡ m .powers)
+Quiet m n = (n .tally ≡ m .tally) × (n .clock .«t_last» ≡ m .clock .«t_last») × (n .parts ≡ m .parts) × (n .cycle .seen ≡ m .cycle .seen) × (n .powers ≡ m .powers)
 
 -- ---- the claim
 
@@ -87,9 +89,11 @@ Quiet m n = (n .tally ≡ m .tally) × (n .clock .«t_last» ≡ m .clock .«t_l
 pub record Agrees (w : Calibration) (m : Pw) (b : Book) : Type 0 where
   -- "the meter's zeros with their mark .. equal the book's; none is the mark off"
   pub zeros : zerosIn (m .corrections) ≡ b .zeros
+  -- the words with their mark are those that it was made with
+  pub words : m .calibration ≡ w
   -- "and each range's gain", stored and in force
   pub kept-gains : (i : ℕ) → i < 4 → getD (m .corrections .vgain) i nan ≡ stored (b .gain i)
-  pub gains : (i : ℕ) → i < 4 → vGain w (m .corrections .vgain) i ≡ inForce w i (b .gain i)
+  pub gains : (i : ℕ) → i < 4 → vGain (m .calibration) (m .corrections .vgain) i ≡ inForce w i (b .gain i)
   -- one that a job has earned is from 0.9 to 1.1
   pub bounds : (i : ℕ) (g : Float) → b .gain i ≡ earned g → within gainLeast gainMost g ≡ true
   -- a job runs where the book has one
@@ -107,6 +111,9 @@ pub record Agrees (w : Calibration) (m : Pw) (b : Book) : Type 0 where
   pub result : (t flags : ℕ) (bytes : List ℕ) (k : Kind) (r : Ranges) (fs : List Codes) → b .job ≡ serving k r fs
       → let s = step m (Frame t flags bytes) in s .answer .refusal ≡ refusal.Done → ready (placeFor (settingOf w r (b .zeros)) k fs) flags ≡ true
       → s .pw .job .«job_res» ≡ resultOf (outcome k (settingOf w r (b .zeros)) fs (codesOf bytes))
+  -- "One not ready changes only `t_poll`"
+  pub not-ready : (t flags : ℕ) (bytes : List ℕ) (k : Kind) (r : Ranges) (fs : List Codes) → b .job ≡ serving k r fs
+      → let s = step m (Frame t flags bytes) in s .answer .refusal ≡ refusal.Done → ready (placeFor (settingOf w r (b .zeros)) k fs) flags ≡ false → s .pw ≡ withPoll m t
   -- "and 0 for a frame taken outside a job"
   pub outside : (t flags : ℕ) (bytes : List ℕ) → b .job ≡ idle → step m (Frame t flags bytes) .answer .used ≡ 0
   -- with its next ready frame a job has used at most so many
