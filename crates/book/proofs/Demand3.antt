@@ -69,7 +69,7 @@ module _ (w : Calibration) (m : Pw) (b : Book) (h : Keeps w m b) where
     set = settingOf w r (b .zeros)
 
     rel-in : Rel w (benchIn m) (book (b .zeros) (b .gain) (serving k r fs))
-    rel-in = record { zeros = h .rel .zeros; gains = h .rel .gains; bounded = h .rel .bounded; room = h .rel .room; runs = subst (Runs w (benchIn m) (b .zeros)) e (h .rel .runs) }
+    rel-in = record { zeros = h .rel .zeros; no-zeros = h .rel .no-zeros; gains = h .rel .gains; bounded = h .rel .bounded; room = h .rel .room; runs = subst (Runs w (benchIn m) (b .zeros)) e (h .rel .runs) }
 
     busy : eqb (m .job .job) 0 ≡ false
     unfolding benchIn
@@ -204,6 +204,7 @@ module _ (w : Calibration) (m : Pw) (b : Book) (h : Keeps w m b) where
   agrees =
       record {
         zeros = h .rel .zeros;
+        no-zeros = h .rel .no-zeros;
         kept-gains = h .rel .gains;
         words = h .calibration;
         gains = λ i i4. ap (λ (c : Calibration). vGain c (m .corrections .vgain) i) (h .calibration) ∙ in-force w (m .corrections .vgain) i (b .gain i) i4 (h .rel .gains i i4) (h .rel .bounded i);

@@ -45,7 +45,7 @@ use Rattle.meter.specs.Table.{codesOf, refusalOf, leftBy}
 use Rattle.meter.proofs.Stated.{outside-leaves, in-job, made-with, sixInBounds, makes}
 use Rattle.meter.proofs.Table.{refused-as, leaves}
 use Rattle.book.specs.Book.{Running, idle, serving, Book, book, framed, started, strikes, asked, entry, books, blank, settingOf}
-use Rattle.book.specs.Demand3.{fed}
+use Rattle.book.specs.Demand3.{NoZeros, fed}
 use Rattle.book.proofs.Relation.{Lengths, Room, Results, Serving, Runs, Rel}
 use Rattle.book.proofs.Serve.{step-as, step-serves}
 use Rattle.book.proofs.Frames.{frame-keeps}
@@ -126,6 +126,7 @@ module _ (w : Calibration) (m : Pw) (b : Book) (h : Keeps w m b) where
   struck-rel n c j =
       record {
         zeros = ap zerosIn c ∙ h .rel .zeros;
+        no-zeros = λ e. subst NoZeros (sym c) (h .rel .no-zeros e);
         gains = λ i i4. ap (λ (x : Corrections). getD (x .vgain) i nan) c ∙ h .rel .gains i i4;
         bounded = h .rel .bounded;
         room = subst (λ (x : Corrections). Lengths (x .zx) (x .zd) (n .job .«job_zx») (n .job .«job_zd») (x .vgain) (n .job .«job_raw») (n .job .«job_ref»)) (sym c)
@@ -170,6 +171,7 @@ module _ (w : Calibration) (m : Pw) (b : Book) (h : Keeps w m b) where
         calibration = w-same ∙ h .calibration;
         rel = record {
           zeros = ap zerosIn c ∙ h .rel .zeros;
+          no-zeros = λ e. subst NoZeros (sym c) (h .rel .no-zeros e);
           gains = λ i i4. ap (λ (x : Corrections). getD (x .vgain) i nan) c ∙ h .rel .gains i i4;
           bounded = h .rel .bounded;
           room = subst (λ (x : Corrections). Lengths (x .zx) (x .zd) (n .job .«job_zx») (n .job .«job_zd») (x .vgain) (n .job .«job_raw») (n .job .«job_ref»)) (sym c) room;
@@ -199,6 +201,7 @@ module _ (w : Calibration) (m : Pw) (b : Book) (h : Keeps w m b) where
       rw (step-as k now 0 t refl)
       (record {
         zeros = h .rel .zeros;
+        no-zeros = h .rel .no-zeros;
         gains = h .rel .gains;
         bounded = h .rel .bounded;
         room = record { zx = h .rel .room .zx; zd = h .rel .room .zd; job-zx = h .rel .room .zx; job-zd = h .rel .room .zd; vgain = h .rel .room .vgain; raw = h .rel .room .raw; ref = h .rel .room .ref };
@@ -260,7 +263,7 @@ module _ (w : Calibration) (m : Pw) (b : Book) (h : Keeps w m b) where
         go : (q : Running) → Runs w (benchIn m) (b .zeros) q → Rel w (jobFrame t w flags (codesOf bytes) (benchIn m) .bench) (framed w flags (codesOf bytes) (b .zeros) (b .gain) q)
         go idle p = absurd (runs p)
         go (serving k r fs) p =
-            frame-keeps t w b (benchIn m) k r fs (codesOf bytes) (record { zeros = h .rel .zeros; gains = h .rel .gains; bounded = h .rel .bounded; room = h .rel .room; runs = p }) flags
+            frame-keeps t w b (benchIn m) k r fs (codesOf bytes) (record { zeros = h .rel .zeros; no-zeros = h .rel .no-zeros; gains = h .rel .gains; bounded = h .rel .bounded; room = h .rel .room; runs = p }) flags
 
     polled-keeps : (m .job .job ≡ 0 → ⊥) → Keeps w (jobPolled m t flags (codesOf bytes) .pw) noted-as
     unfolding jobPolled benchIn
@@ -309,6 +312,7 @@ new-keeps d w =
       calibration = refl;
       rel = record {
         zeros = refl;
+        no-zeros = λ e. (refl, refl, refl);
         gains = gains;
         bounded = λ i x e. absurd (let y : _≡_ {A = ℕ} 0 1 = cc in omega arith);
         room = record { zx = refl; zd = refl; job-zx = refl; job-zd = refl; vgain = refl; raw = refl; ref = refl };

@@ -156,6 +156,7 @@ module _ (now : ℕ) (w : Calibration) (b : Book) (t : Bench) (k : Kind) (r : Ra
       (step-done-keeps k now w b u r more (meanOf (u .job .«job_a»)) (meanOf (u .job .«job_b»))
       (record {
         zeros = rel .zeros;
+        no-zeros = rel .no-zeros;
         gains = rel .gains;
         bounded = rel .bounded;
         room = rel .room;
@@ -182,7 +183,7 @@ module _ (now : ℕ) (w : Calibration) (b : Book) (t : Bench) (k : Kind) (r : Ra
       both Kept (ltb (countUp (t .job .«job_n»)) jobN) (ltb (suc (length fs)) (begins lay (suc at)))
       (ltb-same (countUp (t .job .«job_n»)) 3 (suc (length fs)) (begins lay (suc at)) (λ h. omega (arith, sv .len, new)) (λ h. omega (arith, sv .len, new)))
       (λ h. goes-on (summed q (oneUsed t))
-      (record { zeros = rel .zeros; gains = rel .gains; bounded = rel .bounded; room = rel .room; runs = counted-serves set t k r fs f sv q e no-skip (omega (arith, new, ltb-true (countUp (t .job .«job_n»)) 3 h)) }))
+      (record { zeros = rel .zeros; no-zeros = rel .no-zeros; gains = rel .gains; bounded = rel .bounded; room = rel .room; runs = counted-serves set t k r fs f sv q e no-skip (omega (arith, new, ltb-true (countUp (t .job .«job_n»)) 3 h)) }))
       (λ h. third q e no-skip (omega (arith, new, ltb-false (countUp (t .job .«job_n»)) 3 h)))
     where
       new : countUp (t .job .«job_n») ≡ suc (t .job .«job_n»)
@@ -194,10 +195,10 @@ module _ (now : ℕ) (w : Calibration) (b : Book) (t : Bench) (k : Kind) (r : Ra
       both Kept (ltb 0 (t .cycle .skip)) (ltb (length fs) (first lay at))
       (ltb-same 0 (t .cycle .skip) (length fs) (first lay at) (λ h. omega (arith, sv .len, sv .none-yet h)) (λ h. omega (arith, sv .len)))
       (λ h. goes-on (dropped (oneUsed t))
-      (record { zeros = rel .zeros; gains = rel .gains; bounded = rel .bounded; room = rel .room; runs = dropped-serves set t k r fs f sv (ltb-true 0 (t .cycle .skip) h) }))
+      (record { zeros = rel .zeros; no-zeros = rel .no-zeros; gains = rel .gains; bounded = rel .bounded; room = rel .room; runs = dropped-serves set t k r fs f sv (ltb-true 0 (t .cycle .skip) h) }))
       (λ h. let no-skip : t .cycle .skip ≡ 0 = omega (arith, ltb-false 0 (t .cycle .skip) h) in
       both Kept (signal (placeIn (t .job)) (oldOf (zerosIn (t .corrections)) at) f) (signalAt set lay at f) (cc (place-in set t k r fs sv, rel .zeros))
-      (λ _. struck-keeps w b k r more (oneUsed t) jrSignal (rel .zeros) (rel .gains) (rel .bounded) (rel .room) (sv .save) (used-new set t k r fs f sv))
+      (λ _. struck-keeps w b k r more (oneUsed t) jrSignal (rel .zeros) (rel .no-zeros) (rel .gains) (rel .bounded) (rel .room) (sv .save) (used-new set t k r fs f sv))
       (λ _. counted-keeps (readingOf (placeIn (t .job)) w (t .ranges .vr) (zerosIn (t .corrections)) f)
       (cc (place-in set t k r fs sv, rel .zeros, sv .vr, reading-new set lay fs f at (t .job .«job_n») (omega (arith, sv .len)))) no-skip))
 

@@ -61,7 +61,7 @@ at-most m n = go (ltb n m) (ltb-true n m) (ltb-false n m)
 
 module _ (w : Calibration) (b : Book) (r : Ranges) (fs : List Codes) where
   struck-by : (t : Bench) (n res : ℕ) → Full w b t Gain r fs n → Good w b Gain r fs (ended res t) (struck res)
-  struck-by t n res h = struck-keeps w b Gain r fs t res (h .zeros) (h .gains) (h .bounded) (h .room) (h .save) (h .used)
+  struck-by t n res h = struck-keeps w b Gain r fs t res (h .zeros) (h .no-zeros) (h .gains) (h .bounded) (h .room) (h .save) (h .used)
 
   raw-end-keeps : (now : ℕ) (t : Bench) (v : RawVerdict) → Full w b t Gain r fs (suc (t .job .«job_step»)) → t .job .«job_step» < 3 → Good w b Gain r fs (byRaw now v t .bench) (rawOut v)
   raw-end-keeps now t Small h low = struck-by t (suc (t .job .«job_step»)) jrSmall h
@@ -84,7 +84,7 @@ module _ (w : Calibration) (b : Book) (r : Ranges) (fs : List Codes) where
   gain-end-keeps t n Unstable p h = struck-by t n jrUnstable h
   gain-end-keeps t n Outside p h = struck-by t n jrRange h
   gain-end-keeps t n (Found g) p h =
-      end-keeps w b Gain r fs (gainStored g t) (gained g) (b .zeros) (withGain g) refl (h .zeros) (λ i i4. rw (at-most 3 (t .ranges .vr), h .vr) (one i i4 (eqb i (min (r .vr) 3)) refl))
+      end-keeps w b Gain r fs (gainStored g t) (gained g) (b .zeros) (withGain g) refl (h .zeros) (h .no-zeros) (λ i i4. rw (at-most 3 (t .ranges .vr), h .vr) (one i i4 (eqb i (min (r .vr) 3)) refl))
       (bounded-with g (p g refl) (h .bounded))
       (record { zx = h .room .zx; zd = h .room .zd; job-zx = h .room .job-zx; job-zd = h .room .job-zd; vgain = rw length-set (h .room .vgain); raw = h .room .raw; ref = h .room .ref }) (h .save) (h .used)
     where
@@ -179,6 +179,7 @@ module _ (w : Calibration) (b : Book) (t : Bench) (r : Ranges) (fs : List Codes)
       (raw-end-keeps w b r fs now (rawNoted D X Y t) (verdictOf c D fs s)
       (record {
         zeros = h .zeros;
+        no-zeros = h .no-zeros;
         gains = h .gains;
         bounded = h .bounded;
         room = record { zx = h .room .zx; zd = h .room .zd; job-zx = h .room .job-zx; job-zd = h .room .job-zd; vgain = h .room .vgain; raw = rw length-set (h .room .raw); ref = h .room .ref };
@@ -201,7 +202,7 @@ module _ (w : Calibration) (b : Book) (t : Bench) (r : Ranges) (fs : List Codes)
 
   noted-full : (n : ℕ) → GainParts c n (t .job .«job_dc») (t .job .«job_raw») (noted .job .«job_ref») fs → Full w b noted Gain r fs n
   noted-full n p =
-      record { zeros = h .zeros; gains = h .gains; bounded = h .bounded; room = noted-room; job = h .job; res = h .res; save = h .save; vr = h .vr; used = h .used; low = h .low; len = h .len; results = p }
+      record { zeros = h .zeros; no-zeros = h .no-zeros; gains = h .gains; bounded = h .bounded; room = noted-room; job = h .job; res = h .res; save = h .save; vr = h .vr; used = h .used; low = h .low; len = h .len; results = p }
 
   module _ (odd : s % 2 ≡ 1) where
     later : 0 < s

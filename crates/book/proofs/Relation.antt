@@ -19,11 +19,11 @@ use Rattle.steps.specs.declared.place.Kind.the-variants.{Zero, Gain}
 use Rattle.steps.specs.declared.place.Place.{Place}
 use Rattle.steps.specs.declared.place.Place.the-variants.{ZeroX, ZeroD, ZeroY, Raw, RefDc, RefAc}
 use Rattle.steps.specs.Place.{Layout, kindNumber, kindOf, layoutOf, placeOf, dropsOf, stepRanges}
-use Rattle.steps.specs.Reading.{Zeros, zerosIn}
+use Rattle.steps.specs.Reading.{Zeros, none, zerosIn}
 use Rattle.jobs.specs.declared.bench.Bench.{Bench}
 use Rattle.jobs.specs.Bench.{kindIn, placeIn}
 use Rattle.book.specs.Book.{measures, drops, begins, first, lastOf, sumOf, Setting, readingAt, dcOf, layoutIn, stepIn, placeFor, Outcome, going, zeroAt, rawAt, refAt, outcomeBy, outcome, RangeGain, earned, Running, idle, serving, Book, entered, settingOf}
-use Rattle.book.specs.Demand3.{stored, mostOf, resultOf}
+use Rattle.book.specs.Demand3.{NoZeros, stored, mostOf, resultOf}
 use Rattle.book.proofs.Lists.{begins-mono, step-is, Same, same}
 
 -- ---- the relation
@@ -91,6 +91,7 @@ Bounded g = (i : ℕ) (x : Float) → g i ≡ earned x → plausible x ≡ true
 
 pub record Rel (w : Calibration) (t : Bench) (b : Book) : Type 0 where
   pub zeros : zerosIn (t .corrections) ≡ b .zeros
+  pub no-zeros : b .zeros ≡ none → NoZeros (t .corrections)
   pub gains : Gains t (b .gain)
   pub bounded : Bounded (b .gain)
   pub room : Room t

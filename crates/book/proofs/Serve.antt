@@ -20,7 +20,7 @@ use Rattle.steps.specs.declared.place.Kind.{Kind}
 use Rattle.steps.specs.declared.place.Kind.the-variants.{Zero, Gain}
 use Rattle.steps.specs.declared.place.Place.{Place}
 use Rattle.steps.specs.Place.{zeroSteps, kindNumber, layoutOf, placeOf, dropsOf, statOf, stepRanges}
-use Rattle.steps.specs.Reading.{Zeros, zerosIn}
+use Rattle.steps.specs.Reading.{Zeros, none, zerosIn}
 use Rattle.steps.specs.Verdict.{zeroMean, part}
 use Rattle.jobs.specs.declared.bench.Bench.{Bench}
 use Rattle.jobs.specs.With.{withRow}
@@ -28,7 +28,7 @@ use Rattle.jobs.specs.Bench.{placeIn, ended, atStep, stepAt, next}
 use Rattle.jobs.specs.Step.{zxNoted, zdNoted, zerosStored, zeroDone}
 use Rattle.jobs.proofs.Counts.{one-more}
 use Rattle.book.specs.Book.{measures, drops, begins, lastOf, Setting, meanX, meanY, Outcome, going, struck, zeroed, tab, zeroAt, thirteen, rawAt, refAt, finished, RangeGain, idle, Book, book, entered, settingOf}
-use Rattle.book.specs.Demand3.{resultOf}
+use Rattle.book.specs.Demand3.{NoZeros, resultOf}
 use Rattle.book.proofs.Lists.{begins-mono, mean-x-old, mean-y-old, dc-old, tab-ext}
 use Rattle.book.proofs.Relation.{Room, ZeroParts, Results, layIn, Serving, Gains, Bounded, Rel, Good, kind-is, last-low, step-vr, meter-place, meter-drops}
 
@@ -114,6 +114,7 @@ step-serves c t k r fs s h =
 -- the bench when its step has its third reading, the last of fs, and what the steps before n have left is noted
 pub record Full (w : Calibration) (b : Book) (t : Bench) (k : Kind) (r : Ranges) (fs : List Codes) (n : ℕ) : Type 0 where
   pub zeros : zerosIn (t .corrections) ≡ b .zeros
+  pub no-zeros : b .zeros ≡ none → NoZeros (t .corrections)
   pub gains : Gains t (b .gain)
   pub bounded : Bounded (b .gain)
   pub room : Room t
@@ -128,16 +129,16 @@ pub record Full (w : Calibration) (b : Book) (t : Bench) (k : Kind) (r : Ranges)
 
 module _ (w : Calibration) (b : Book) (k : Kind) (r : Ranges) (fs : List Codes) where
   -- the job has ended, with these zeros and gains in the book
-  pub end-keeps : (t : Bench) (o : Outcome) (z : Zeros) (g : ℕ → RangeGain) → entered k r fs o (b .zeros) (b .gain) ≡ book z g idle → zerosIn (t .corrections) ≡ z → Gains t g → Bounded g → Room t
+  pub end-keeps : (t : Bench) (o : Outcome) (z : Zeros) (g : ℕ → RangeGain) → entered k r fs o (b .zeros) (b .gain) ≡ book z g idle → zerosIn (t .corrections) ≡ z → (z ≡ none → NoZeros (t .corrections)) → Gains t g → Bounded g → Room t
       → t .job .«job_save» ≡ r → t .job .used ≡ length fs → Good w b k r fs (ended (resultOf o) t) o
   unfolding ended
-  end-keeps t o z g e hz hg hb room save used =
-      record { rel = rw e (record { zeros = hz; gains = hg; bounded = hb; room = room; runs = refl }); back = λ _. save; used = used; res = refl }
+  end-keeps t o z g e hz hn hg hb room save used =
+      record { rel = rw e (record { zeros = hz; no-zeros = hn; gains = hg; bounded = hb; room = room; runs = refl }); back = λ _. save; used = used; res = refl }
 
   -- it ends otherwise than well
-  pub struck-keeps : (t : Bench) (res : ℕ) → zerosIn (t .corrections) ≡ b .zeros → Gains t (b .gain) → Bounded (b .gain) → Room t → t .job .«job_save» ≡ r → t .job .used ≡ length fs
+  pub struck-keeps : (t : Bench) (res : ℕ) → zerosIn (t .corrections) ≡ b .zeros → (b .zeros ≡ none → NoZeros (t .corrections)) → Gains t (b .gain) → Bounded (b .gain) → Room t → t .job .«job_save» ≡ r → t .job .used ≡ length fs
       → Good w b k r fs (ended res t) (struck res)
-  struck-keeps t res hz hg hb room save used = end-keeps t (struck res) (b .zeros) (b .gain) refl hz hg hb room save used
+  struck-keeps t res hz hn hg hb room save used = end-keeps t (struck res) (b .zeros) (b .gain) refl hz hn hg hb room save used
 
   pub next-keeps : (now : ℕ) (t : Bench) → Full w b t k r fs (suc (t .job .«job_step»)) → t .job .«job_step» < lastOf (layIn k t) → Good w b k r fs (next now t .bench) going
   unfolding next
@@ -149,6 +150,7 @@ module _ (w : Calibration) (b : Book) (k : Kind) (r : Ranges) (fs : List Codes) 
       (record {
         rel = record {
           zeros = h .zeros;
+          no-zeros = h .no-zeros;
           gains = h .gains;
           bounded = h .bounded;
           room = h .room;
@@ -211,6 +213,7 @@ module _ (w : Calibration) (b : Book) (t : Bench) (r : Ranges) (fs : List Codes)
       next-keeps w b Zero r fs now (zxNoted z t)
       (record {
         zeros = h .zeros;
+        no-zeros = h .no-zeros;
         gains = h .gains;
         bounded = h .bounded;
         job = h .job;
@@ -230,6 +233,7 @@ module _ (w : Calibration) (b : Book) (t : Bench) (r : Ranges) (fs : List Codes)
       next-keeps w b Zero r fs now (zdNoted z t)
       (record {
         zeros = h .zeros;
+        no-zeros = h .no-zeros;
         gains = h .gains;
         bounded = h .bounded;
         job = h .job;
@@ -246,7 +250,7 @@ module _ (w : Calibration) (b : Book) (t : Bench) (r : Ranges) (fs : List Codes)
 
   stores : 12 ≤ s → Kept (ended jrOk (zerosStored z t)) (zeroed (thirteen c fs))
   stores s12 =
-      end-keeps w b Zero r fs (zerosStored z t) (zeroed (thirteen c fs)) (thirteen c fs) (b .gain) refl (all-thirteen s12) (h .gains) (h .bounded)
+      end-keeps w b Zero r fs (zerosStored z t) (zeroed (thirteen c fs)) (thirteen c fs) (b .gain) refl (all-thirteen s12) (λ e. absurd (let x : _≡_ {A = ℕ} 0 1 = cc in omega arith)) (h .gains) (h .bounded)
       (record { zx = h .room .job-zx; zd = h .room .job-zd; job-zx = h .room .job-zx; job-zd = h .room .job-zd; vgain = h .room .vgain; raw = h .room .raw; ref = h .room .ref }) (h .save) (h .used)
 
   pub zero-done-keeps : Kept (zeroDone now z t .bench) (finished Zero c fs s)

@@ -4,7 +4,8 @@ use mathlib.Core.Bool.{Bool, true, false, cond}
 use mathlib.Core.List.{List, [], _∷_, _++_}
 use Prim.Native.Nat.{ℕ, suc, _<_, _≤_}
 use lib.Ieee.{Float, nan}
-use lib.ListN.{getD, length}
+use lib.IntN.{pos}
+use lib.ListN.{getD, length, replicate}
 use Rattle.numbers.specs.Binary32.{zeroF}
 use Rattle.refusals.specs.declared.Refusal.the-variants as refusal
 use Rattle.codes.specs.declared.Codes.{Codes}
@@ -13,12 +14,13 @@ use Rattle.tables.specs.Constants.{jrRun, jrOk, jrAbort}
 use Rattle.tables.specs.Gain.{gainLeast, gainMost, vGainFactory, vGain}
 use Rattle.tables.specs.declared.calibration.Calibration.{Calibration}
 use Rattle.tables.specs.declared.description.Description.{Description}
+use Rattle.state.specs.declared.Corrections.{Corrections}
 use Rattle.state.specs.declared.Pw.{Pw}
 use Rattle.state.specs.declared.Ranges.{Ranges}
 use Rattle.steps.specs.declared.place.Kind.{Kind}
 use Rattle.steps.specs.declared.place.Kind.the-variants.{Zero, Gain}
 use Rattle.steps.specs.Place.{kindNumber, ready}
-use Rattle.steps.specs.Reading.{Zeros, zerosIn}
+use Rattle.steps.specs.Reading.{Zeros, none, zerosIn}
 use Rattle.orders.specs.Apply.{aborted}
 use Rattle.meter.specs.Making.{make}
 use Rattle.meter.specs.Frame.{withPoll}
@@ -55,6 +57,10 @@ resultOf (struck res) = res
 resultOf (zeroed z) = jrOk
 resultOf (gained g) = jrOk
 
+-- no number stands behind a mark that is off
+abbrev pub NoZeros : Corrections → Type 0
+NoZeros c = (c .zx ≡ replicate 6 (pos 0)) × (c .zd ≡ replicate 6 (pos 0)) × (c .zy ≡ pos 0)
+
 -- ---- a job's end
 
 -- "At each job's end in the list, ranges and marks become those noted, and the ending call goes on from there". `aborted m` is m with its job ended and nothing else done: the order does to m what it does to that meter, in which no job runs
@@ -89,6 +95,7 @@ Quiet m n = (n .tally ≡ m .tally) × (n .clock .«t_last» ≡ m .clock .«t_l
 pub record Agrees (w : Calibration) (m : Pw) (b : Book) : Type 0 where
   -- "the meter's zeros with their mark .. equal the book's; none is the mark off"
   pub zeros : zerosIn (m .corrections) ≡ b .zeros
+  pub no-zeros : b .zeros ≡ none → NoZeros (m .corrections)
   -- the words with their mark are those that it was made with
   pub words : m .calibration ≡ w
   -- "and each range's gain", stored and in force
