@@ -276,11 +276,11 @@ static const char *result_name(uint8_t stat)
 {
     static const char *const others[] = {"?", "V", "I", "DV", "DI"};
     switch (stat) {
-    case 0x88:
+    case PW_R34_XY:
         return "XY";
-    case 0x80:
+    case PW_R34_XX:
         return "XX";
-    case 0x8C:
+    case PW_R34_YY:
         return "YY";
     default:
         return stat < sizeof others / sizeof others[0] ? others[stat] : "?";

@@ -3,9 +3,6 @@
 #include "leaves.h"
 #include "script.h"
 
-/* The source's number of a phase calibration that has found its steps. */
-enum { CAL_OK = 2 };
-
 /* The arguments of a function, the meter in force, and where the answer goes. */
 struct question {
     const struct word *argument;
@@ -351,7 +348,7 @@ static bool f_cal_outcome(struct question q)
     if (!read_float(q.argument[0], &s))
         return false;
     struct leaf_cal_outcome outcome = leaf_cal_outcome(s);
-    bool found = outcome.number == CAL_OK;
+    bool found = outcome.number == PW_CAL_OK;
     put_text(q.out, found ? "= ok " : "= err ");
     put_i64(q.out, found ? outcome.steps : outcome.number);
     return end_line(q.out);
