@@ -13,6 +13,7 @@ use Rattle.numbers.proofs.Cases.{either, by-test}
 use Rattle.refusals.specs.declared.Refusal.{Refusal}
 use Rattle.refusals.specs.declared.Refusal.the-variants as refusal
 use Rattle.codes.specs.declared.Codes.{Codes}
+use Rattle.codes.specs.Frame.{codesOf}
 use Rattle.tables.specs.declared.calibration.Calibration.{Calibration}
 use Rattle.tables.specs.declared.description.Description.{Description}
 use Rattle.state.specs.declared.Corrections.{Corrections}
@@ -41,7 +42,7 @@ use Rattle.orders.proofs.Stated.{Carried, aborted-none, on-carried, off-carried
 use Rattle.meter.specs.declared.making.Made.{Made}
 use Rattle.meter.specs.Making.{refuses, notMade, make}
 use Rattle.meter.specs.Calls.{step, after, Call, On, Off, Method, SetRanges, Coupling, ZeroJob, GainJob, PhaseStart, EnergyReset, Run, Reapply, SetSettings, Frame}
-use Rattle.meter.specs.Table.{codesOf, refusalOf, leftBy}
+use Rattle.meter.specs.Table.{refusalOf, leftBy}
 use Rattle.meter.proofs.Stated.{outside-leaves, in-job, made-with, sixInBounds, makes}
 use Rattle.meter.proofs.Table.{refused-as, leaves}
 use Rattle.book.specs.Book.{Running, idle, serving, Book, book, framed, started, strikes, asked, entry, books, blank, settingOf}

@@ -12,7 +12,7 @@ use Rattle.refusals.specs.declared.Refusal.the-variants as refusal
 use Rattle.refusals.specs.Number.{refusalNumber}
 use Rattle.codes.specs.declared.Codes.{Codes}
 use Rattle.codes.specs.declared.Decoded.the-variants.{Taken, Refused}
-use Rattle.codes.specs.Frame.{decoded}
+use Rattle.codes.specs.Frame.{codesOf, decoded}
 use Rattle.state.specs.declared.Pw.{Pw}
 use Rattle.state.specs.declared.Stamp.{Stamp}
 use Rattle.steps.specs.declared.place.Kind.{Kind}
@@ -33,7 +33,7 @@ use Rattle.orders.proofs.Stated.{on-carried, off-carried, method-carried, coupl
 use Rattle.meter.specs.Frame.{PathEnd, accountedStep, read, valuedBy, valued, framed, measuredBy, measured, inJob, taken, pollBy, poll}
 use Rattle.meter.proofs.Full.{full-when}
 use Rattle.meter.specs.Calls.{step, Call, On, Off, Method, SetRanges, Coupling, ZeroJob, GainJob, PhaseStart, EnergyReset, Run, Reapply, SetSettings, Frame}
-use Rattle.meter.specs.Table.{codesOf, lateWhen, frameRefused, offWhen, busyWhen, methodWhen, fullRefused, fullBy, fullEnd, named, refusalOf, turnedAway, leftBy, aloneBy}
+use Rattle.meter.specs.Table.{lateWhen, frameRefused, offWhen, busyWhen, methodWhen, fullRefused, fullBy, fullEnd, named, refusalOf, turnedAway, leftBy, aloneBy}
 
 -- ---- one row of the table at a time
 

@@ -6,8 +6,7 @@ use lib.Dec.{eqb}
 use lib.ListN.{length}
 use Rattle.refusals.specs.declared.Refusal.{Refusal}
 use Rattle.refusals.specs.declared.Refusal.the-variants as refusal
-use Rattle.codes.specs.declared.Codes.{Codes}
-use Rattle.codes.specs.Frame.{ad1Of, lpfOf, rmsOf}
+use Rattle.codes.specs.Frame.{codesOf}
 use Rattle.figures.specs.Full.{intervalFull}
 use Rattle.state.specs.declared.Pw.{Pw}
 use Rattle.state.specs.Counting.{elapsed}
@@ -104,9 +103,6 @@ fullBy after t NoValues = false
 
 abbrev pub fullEnd : ℕ → PathEnd → Bool
 fullEnd t f = f .«to_values» && fullBy (f .pw) t (pwVals (f .pw))
-
-abbrev pub codesOf : List ℕ → Codes
-codesOf bytes = record { ad1 = ad1Of bytes; lpf = lpfOf bytes; rms = rmsOf bytes }
 
 abbrev pub fullWhen : Pw → ℕ → ℕ → List ℕ → Bool
 fullWhen m t flags bytes = eqb (m .job .job) 0 && fullEnd t (framed m t flags (codesOf bytes))
