@@ -23,6 +23,14 @@ pub struct HostVal {
     pub over: bool,
 }
 
+// What stands for a readout where there is none.
+pub const NO_VAL: HostVal = HostVal {
+    number: 0.0,
+    decimals: 0,
+    unit: 0,
+    over: false,
+};
+
 // `struct pw_readouts`
 #[repr(C)]
 pub struct HostReadouts {
@@ -93,12 +101,7 @@ fn text_only(text: u8) -> HostPartial
     HostPartial {
         text,
         with_volts: false,
-        volts: HostVal {
-            number: 0.0,
-            decimals: 0,
-            unit: 0,
-            over: false,
-        },
+        volts: NO_VAL,
     }
 }
 

@@ -4,7 +4,7 @@ ghost use Rattle.orders.specs.Answer.{refusedWith};
 ghost use Rattle.meter.specs.Frame.{frameDone};
 ghost use Rattle.host.specs.Stepped.{askOf, hostRead, hostStep, hostMade};
 use crate::shown::HostReadouts;
-use crate::shown::HostVal;
+use crate::shown::NO_VAL;
 use crate::shown::host_readouts;
 use figures::load::Figures;
 use meter::making::Made;
@@ -58,13 +58,6 @@ pub struct HostMade {
     pub refusal: u8,
     pub meter: Pw,
 }
-
-const NO_VAL: HostVal = HostVal {
-    number: 0.0,
-    decimals: 0,
-    unit: 0,
-    over: false,
-};
 
 const NO_READING: HostReading = HostReading {
     readouts: HostReadouts {
