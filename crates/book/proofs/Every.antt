@@ -37,7 +37,7 @@ use Rattle.orders.specs.With.{withCalReq, withMode}
 use Rattle.orders.specs.Apply.{applied, aborted}
 use Rattle.orders.specs.Switches as switches
 use Rattle.orders.specs.Ranges.{setRanges}
-use Rattle.orders.specs.Starts.{startedStep, startJob, phaseStart, energyReset, runSet, settingsSet}
+use Rattle.orders.specs.Starts.{startedStep, startJob, phaseStart, energyReset, setRun, setSettings}
 use Rattle.orders.proofs.Stated.{Carried, aborted-none, on-carried, off-carried, method-carried, coupling-carried, ranges-carried, reapply-carried}
 use Rattle.meter.specs.declared.making.Made.{Made}
 use Rattle.meter.specs.Making.{refuses, notMade, make}
@@ -153,12 +153,12 @@ module _ (w : Calibration) (m : Pw) (b : Book) (h : Keeps w m b) where
   unfolding energyReset done marked benchIn
   reset-keeps = same-bench _ refl refl
 
-  run-keeps : (on : Bool) → Kept b (runSet m on)
-  unfolding runSet done marked benchIn
+  run-keeps : (on : Bool) → Kept b (setRun m on)
+  unfolding setRun done marked benchIn
   run-keeps on = same-bench _ refl refl
 
-  settings-keeps : (v : Settings) → Kept b (settingsSet m v)
-  unfolding settingsSet done marked benchIn
+  settings-keeps : (v : Settings) → Kept b (setSettings m v)
+  unfolding setSettings done marked benchIn
   settings-keeps v = same-bench _ refl refl
 
   -- ---- where no job runs

@@ -28,7 +28,7 @@ use Rattle.orders.specs.Apply.{aborted}
 use Rattle.orders.specs.Switches as switches
 use Rattle.orders.specs.Switches.{switchedOn, switchedOff, methodSet, couplingSet}
 use Rattle.orders.specs.Ranges.{rangesSet, setRanges}
-use Rattle.orders.specs.Starts.{startedStep, startJob, phaseStart, energyReset, runSet, settingsSet}
+use Rattle.orders.specs.Starts.{startedStep, startJob, phaseStart, energyReset, setRun, setSettings}
 use Rattle.orders.proofs.Stated.{on-carried, off-carried, method-carried, coupling-carried, ranges-carried, reapply-carried, start-carried, phase-carried, reset-carried, run-carried, settings-carried}
 use Rattle.meter.specs.Frame.{PathEnd, accountedStep, read, valuedBy, valued, framed, measuredBy, measured, inJob, taken, pollBy, poll}
 use Rattle.meter.proofs.Full.{full-when}
@@ -151,11 +151,11 @@ row m PhaseStart =
     test m PhaseStart (not (m .mode .on)) (off-row m PhaseStart)
     (test m PhaseStart (m .mode .alt || m .mode .dc) (method-row m PhaseStart) (accepted m PhaseStart _ (phase-carried m 0 .0)))
 row m EnergyReset = accepted m EnergyReset (energyReset m) (reset-carried m 0 .0)
-row m (Run b) = accepted m (Run b) (runSet m b) (run-carried m 0 b .0)
+row m (Run b) = accepted m (Run b) (setRun m b) (run-carried m 0 b .0)
 row m (Reapply t) =
     test m (Reapply t) (late t) (late-row m (Reapply t))
     (test m (Reapply t) (not (eqb (m .job .job) 0)) (busy-row m (Reapply t)) (accepted m (Reapply t) _ (reapply-carried m t .0)))
-row m (SetSettings s) = accepted m (SetSettings s) (settingsSet m s) (settings-carried m 0 s .0)
+row m (SetSettings s) = accepted m (SetSettings s) (setSettings m s) (settings-carried m 0 s .0)
 row m (Frame t flags bytes) = frame-rows m t flags bytes
 
 -- "When", and the order: "otherwise 5, 4, 1, 2, 3, and 6 last". "A refusal is given only under its condition"

@@ -33,7 +33,7 @@ use Rattle.orders.specs.Answer.{marked, done}
 use Rattle.orders.specs.Apply.{applied, appliedIfOn, aborted}
 use Rattle.orders.specs.Switches.{switchedOn, switchedOff, methodSet, takesForce, couplingSet}
 use Rattle.orders.specs.Ranges.{vAsked, iAsked, barredAsked, sameRanges, keepOf, rangesSet}
-use Rattle.orders.specs.Starts.{startedStep, energyReset, runSet, settingsSet}
+use Rattle.orders.specs.Starts.{startedStep, energyReset, setRun, setSettings}
 
 -- what no order changes: description and words, zeros and gains, smoothed values, the powers of the next interval, since when the current is above its limit, the ring, and the last frame's time
 abbrev pub Leaves : Pw → Pw → Type 0
@@ -142,12 +142,12 @@ module _ (m : Pw) (t : ℕ) where
   unfolding energyReset
   reset-carried = done-carried t m (m .job) (m .settings) (withTally m freshTally (withTLast (m .clock) noTime)) (leaves-all m) refl refl
 
-  pub run-carried : (b : Bool) → Carried t m (m .job) (m .settings) (runSet m b)
-  unfolding runSet
+  pub run-carried : (b : Bool) → Carried t m (m .job) (m .settings) (setRun m b)
+  unfolding setRun
   run-carried b = done-carried t m (m .job) (m .settings) (withTally m (m .tally) (withRun (m .clock) b)) (leaves-all m) refl refl
 
-  pub settings-carried : (w : Settings) → Carried t m (m .job) w (settingsSet m w)
-  unfolding settingsSet
+  pub settings-carried : (w : Settings) → Carried t m (m .job) w (setSettings m w)
+  unfolding setSettings
   settings-carried w = done-carried t m (m .job) w (withSettings m w) (leaves-all m) refl refl
 
 -- a start that is refused with 3 changes the job's record alone
