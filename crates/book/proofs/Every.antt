@@ -28,7 +28,7 @@ use Rattle.steps.specs.Place.{kindNumber}
 use Rattle.steps.specs.Reading.{zerosIn}
 use Rattle.jobs.specs.declared.bench.Bench.{Bench}
 use Rattle.jobs.specs.With.{withJob}
-use Rattle.jobs.specs.Bench.{jobEnd, ended, noted, begun, turnedAway}
+use Rattle.jobs.specs.Bench.{endedIfAny, ended, noted, begun, turnedAway}
 use Rattle.jobs.specs.Frame.{jobFrame}
 use Rattle.jobs.specs.Whole.{benchIn, withBench, jobStarted, jobTurnedAway, jobEnded, jobPolled}
 use Rattle.orders.specs.declared.answer.Step.{Step}
@@ -118,7 +118,7 @@ module _ (w : Calibration) (m : Pw) (b : Book) (h : Keeps w m b) where
   RoomWith j = Lengths (m .corrections .zx) (m .corrections .zd) (j .«job_zx») (j .«job_zd») (m .corrections .vgain) (j .«job_raw») (j .«job_ref»)
 
   aborted-room : RoomWith (aborted m .job)
-  unfolding aborted jobEnded withBench jobEnd ended benchIn
+  unfolding aborted jobEnded withBench endedIfAny ended benchIn
   aborted-room = either (λ (t : Bench). RoomWith (t .job)) (eqb (m .job .job) 0) {x = benchIn m} (h .rel .room) (h .rel .room)
 
   -- zeros and gains are the meter's, and no job runs

@@ -22,7 +22,7 @@ use Rattle.steps.specs.declared.place.Kind.{Kind}
 use Rattle.steps.specs.Place.{settleOf}
 use Rattle.phase.specs.Phase.{calStarted}
 use Rattle.jobs.specs.declared.bench.Bench.{Bench}
-use Rattle.jobs.specs.Bench.{placeIn, atStep, noted, ended, jobEnd, stepAt, begun}
+use Rattle.jobs.specs.Bench.{placeIn, atStep, noted, ended, endedIfAny, stepAt, begun}
 use Rattle.jobs.specs.Whole.{benchIn, withBench, jobStarted, jobTurnedAway, jobEnded}
 use Rattle.jobs.proofs.Stated.{settle-of}
 use Rattle.orders.specs.declared.answer.Step.{Step}
@@ -53,7 +53,7 @@ Carried t m j w s =
 
 -- "first end a job with `JR_ABORT`": none runs after it
 pub aborted-none : (m : Pw) → aborted m .job .job ≡ 0
-unfolding aborted jobEnded withBench jobEnd ended benchIn
+unfolding aborted jobEnded withBench endedIfAny ended benchIn
 aborted-none m = go (eqb (m .job .job) 0) (eqb-true (m .job .job) 0)
   where
     go : (none : Bool) → (none ≡ true → m .job .job ≡ 0) → cond none (benchIn m) (ended jrAbort (benchIn m)) .job .job ≡ 0
@@ -63,16 +63,16 @@ aborted-none m = go (eqb (m .job .job) 0) (eqb-true (m .job .job) 0)
 -- one that ran has ended with `JR_ABORT`; "ranges and marks become those noted", and the host is to re-apply if the meter is on
 pub aborted-running : (m : Pw) → eqb (m .job .job) 0 ≡ false
     → (aborted m .job .«job_res» ≡ jrAbort) × (aborted m .ranges ≡ m .job .«job_save») × (aborted m .mode ≡ withCalReq (m .mode) (m .mode .on))
-unfolding aborted jobEnded withBench jobEnd ended benchIn
+unfolding aborted jobEnded withBench endedIfAny ended benchIn
 aborted-running m e = (rw (e), rw (e), rw (e))
 
 -- where none runs nothing changes
 pub aborted-idle : (m : Pw) → eqb (m .job .job) 0 ≡ true → aborted m ≡ m
-unfolding aborted jobEnded withBench jobEnd benchIn
+unfolding aborted jobEnded withBench endedIfAny benchIn
 aborted-idle m e = rw (e)
 
 aborted-leaves : (m : Pw) → Leaves m (aborted m)
-unfolding aborted jobEnded withBench jobEnd ended benchIn
+unfolding aborted jobEnded withBench endedIfAny ended benchIn
 aborted-leaves m =
     either (λ (b : Bench). Leaves m (withBench m b)) (eqb (m .job .job) 0) {x = benchIn m} {y = ended jrAbort (benchIn m)} (leaves-all m) (leaves-all m)
 
