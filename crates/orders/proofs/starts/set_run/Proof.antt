@@ -1,3 +1,4 @@
+-- One field, and done.
 use borrow.Author.Needs.{needs}
 use Rattle.orders.specs.Starts.{setRun}
 use Rattle.orders.proofs.starts.set_run.Statement.{statement}

@@ -1,3 +1,4 @@
+-- One field, and done.
 use borrow.Author.Needs.{needs}
 use Rattle.orders.specs.Starts.{setSettings}
 use Rattle.orders.proofs.starts.set_settings.Statement.{statement}
