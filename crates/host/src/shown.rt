@@ -67,6 +67,7 @@ pub fn host_vals(answer: Vals) -> HostVals
     }
 }
 
+// One readout, its unit by the number.
 pub fn host_val(v: Val) -> HostVal
     ensures { λ r. ⌜ r ≡ hostVal v ⌝ }
 {
@@ -80,6 +81,7 @@ pub fn host_val(v: Val) -> HostVal
     }
 }
 
+// The readouts of a reading, each unit by its number.
 pub fn host_readouts(readouts: Readouts) -> HostReadouts
     ensures { λ r. ⌜ r ≡ hostReadouts readouts ⌝ }
 {
@@ -105,6 +107,7 @@ fn text_only(text: u8) -> HostPartial
     }
 }
 
+// What is shown in place of a reading: the text by its number, and the volts where there are any.
 pub fn host_partial(partial: Partial) -> HostPartial
     ensures { λ r. ⌜ r ≡ hostPartial partial ⌝ }
 {

@@ -185,6 +185,7 @@ pub fn host_done(meter: Pw, mark: Stamp, used: u8, shown: Reading) -> HostStep
     }
 }
 
+// A call's step: the meter after it, and its answer with the refusal by its number.
 pub fn host_step(step: Step) -> HostStep
     ensures { λ r. ⌜ r ≡ hostStep step ⌝ }
 {
@@ -208,6 +209,7 @@ pub fn host_step(step: Step) -> HostStep
     }
 }
 
+// What the making of a meter answers, with the refusal by its number.
 pub fn host_made(made: Made) -> HostMade
     ensures { λ r. ⌜ r ≡ hostMade made ⌝ }
 {

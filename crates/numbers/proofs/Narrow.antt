@@ -1,4 +1,4 @@
--- An f64 rounded to binary32, by its bit pattern. Assumes nothing.
+-- An f64 rounded to binary32, by its bit pattern.
 use mathlib.Core.Path.{_≡_, refl, sym, ap, _∙_, subst}
 use mathlib.Core.Logic.{_⊎_, inl, inr}
 use mathlib.Core.Bool.{Bool, true, false, true≢false}

@@ -1,4 +1,4 @@
--- The order of floats: laws of `lt`, `le`, `eq` over every value, NaN and the infinities included. Assumes nothing.
+-- The order of floats: laws of `lt`, `le`, `eq` over every value, NaN and the infinities included.
 -- One fact carries them all: of any three values that are not NaN, each has a rank, a natural number, and `lt`, `le`, `eq` of two of them are the tests of the ranks.
 use mathlib.Core.Path.{_≡_, refl, sym, ap, _∙_}
 use mathlib.Core.Bool.{Bool, true, false, not, _&&_, _||_, Bool·beq, false≢true}

@@ -31,6 +31,7 @@ pub struct Step {
 // The first time that is refused, 2^48 ms.
 const LATE: u64 = 281474976710656;
 
+// Whether a call's time is too late for it, refusal 5.
 pub fn late(time: u64) -> bool
     ensures { λ r. ⌜ r ≡ late time ⌝ }
 {

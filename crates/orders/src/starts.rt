@@ -95,7 +95,7 @@ pub fn set_run(before: Pw, run: bool) -> Step
     done(after)
 }
 
-// Compensation, path resistances, the limits of current and time, and the main readout: any bits.
+// The order `settings`: all five fields, of any bits, on or off, in a job too.
 pub fn set_settings(before: Pw, settings: Settings) -> Step
     ensures { λ r. ⌜ r ≡ setSettings before settings ⌝ }
 {

@@ -156,7 +156,8 @@ impl Clock {
     };
 }
 
-// What the order `settings` brings.
+// Whether the drop in the meter's own path is taken off, the path's ohms by unit, the limit of the
+// continuous current in A with the seconds allowed above it, and the main readout: the order `settings`.
 #[repr(C)]
 pub struct Settings {
     pub comp: bool,
