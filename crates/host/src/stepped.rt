@@ -159,7 +159,7 @@ pub fn host_refused(told: Refusal, meter: Pw) -> HostStep
         meter,
         answer: HostAnswer {
             refusal,
-            mark: Stamp { set: false, at: 0 },
+            mark: Stamp::NONE,
             used: 0,
             has_reading: false,
             reading: NO_READING,

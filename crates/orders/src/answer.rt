@@ -46,7 +46,7 @@ pub fn refused_with(refusal: Refusal, pw: Pw) -> Step
         pw,
         answer: Answer {
             refusal,
-            mark: Stamp { set: false, at: 0 },
+            mark: Stamp::NONE,
             used: 0,
             reading: Reading::NoReading,
         },
@@ -72,6 +72,6 @@ pub fn marked(pw: Pw, mark: Stamp) -> Step
 pub fn done(pw: Pw) -> Step
     ensures { λ r. ⌜ r ≡ done pw ⌝ }
 {
-    let none = Stamp { set: false, at: 0 };
+    let none = Stamp::NONE;
     marked(pw, none)
 }

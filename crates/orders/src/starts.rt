@@ -77,7 +77,7 @@ pub fn energy_reset(before: Pw) -> Step
     ensures { λ r. ⌜ r ≡ energyReset before ⌝ }
 {
     let tally = Tally::ZERO;
-    let none = Stamp { set: false, at: 0 };
+    let none = Stamp::NONE;
     let mut clock = before.clock;
     clock.t_last = none;
     let mut after = before;

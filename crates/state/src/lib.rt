@@ -27,7 +27,8 @@ pub struct Stamp {
 }
 
 impl Stamp {
-    const NONE: Stamp = Stamp { set: false, at: 0 };
+    // No time.
+    pub const NONE: Stamp = Stamp { set: false, at: 0 };
 }
 
 // What the meter does: on, the alternating method, the coupling asked for, DC coupling in force, and
