@@ -1,4 +1,4 @@
--- The accounting changes the ledger alone, and they are all that it reads beside the mode, `i_cont`, the figures and the time.
+-- The accounting changes the ledger alone, and reads beside it only the mode, `i_cont`, the figures and the time.
 use mathlib.Core.Path.{_≡_, refl}
 use mathlib.Core.Bool.{not}
 use Prim.Native.Nat.{ℕ}

@@ -12,6 +12,7 @@ use Rattle.numbers.proofs.Cases.{either}
 use Rattle.refusals.specs.declared.Refusal.{Refusal}
 use Rattle.refusals.specs.declared.Refusal.the-variants as refusal
 use Rattle.codes.specs.declared.Codes.{Codes}
+use Rattle.codes.specs.Frame.{codesOf}
 use Rattle.tables.specs.Bounds.{within}
 use Rattle.tables.specs.Constants.{jrAbort}
 use Rattle.tables.specs.Gain.{gainLeast, gainMost, plausible, vGain}
@@ -39,7 +40,6 @@ use Rattle.orders.proofs.Stated.{aborted-none, aborted-running, aborted-idle}
 use Rattle.meter.specs.Making.{refuses, make}
 use Rattle.meter.specs.Frame.{withPoll, polledStep}
 use Rattle.meter.specs.Calls.{step, after, Call, On, Off, Method, SetRanges, Coupling, ZeroJob, GainJob, PhaseStart, EnergyReset, Run, Reapply, SetSettings, Frame}
-use Rattle.meter.specs.Table.{codesOf}
 use Rattle.meter.proofs.Stated.{in-job, in-job-leaves, outside-counts-none}
 use Rattle.book.specs.Book.{RangeGain, earned, Running, idle, serving, Book, book, Setting, placeFor, Outcome, going, struck, zeroed, gained, outcome, entered, framed, started, strikes, note, asked, entry, books, blank, settingOf}
 use Rattle.book.specs.Demand3.{runs, resultOf, Ended, Quiet, Agrees, fed, Demand3}

@@ -8,6 +8,7 @@ use borrow.Author.Tests.{eqb-true}
 use lib.Dec.{eqb}
 use lib.Ieee.{Float}
 use Rattle.codes.specs.declared.Codes.{Codes}
+use Rattle.codes.specs.Frame.{codesOf}
 use Rattle.tables.specs.declared.calibration.Calibration.{Calibration}
 use Rattle.state.specs.declared.Pw.{Pw}
 use Rattle.state.specs.declared.Ranges.{Ranges}
@@ -17,7 +18,6 @@ use Rattle.steps.specs.Place.{ready}
 use Rattle.steps.specs.Reading.{Zeros}
 use Rattle.meter.specs.Making.{refuses}
 use Rattle.meter.specs.Calls.{step, Call, On, Off, Method, SetRanges, Coupling, ZeroJob, GainJob, PhaseStart, EnergyReset, Run, Reapply, SetSettings, Frame}
-use Rattle.meter.specs.Table.{codesOf}
 use Rattle.book.specs.Book.{Outcome, going, struck, zeroed, gained, outcome, RangeGain, earned, Running, idle, serving, Book, book, entered, framed, started, strikes, note, asked, entry, books, blank, settingOf, placeFor}
 use Rattle.book.specs.Earned.{Comes, EarnsZeros, EarnsGain, Sometime, Earned}
 

@@ -13,6 +13,7 @@ use Rattle.numbers.proofs.Cases.{either, by-test}
 use Rattle.refusals.specs.declared.Refusal.{Refusal}
 use Rattle.refusals.specs.declared.Refusal.the-variants as refusal
 use Rattle.codes.specs.declared.Codes.{Codes}
+use Rattle.codes.specs.Frame.{codesOf}
 use Rattle.tables.specs.declared.calibration.Calibration.{Calibration}
 use Rattle.tables.specs.declared.description.Description.{Description}
 use Rattle.state.specs.declared.Corrections.{Corrections}
@@ -27,7 +28,7 @@ use Rattle.steps.specs.Place.{kindNumber}
 use Rattle.steps.specs.Reading.{zerosIn}
 use Rattle.jobs.specs.declared.bench.Bench.{Bench}
 use Rattle.jobs.specs.With.{withJob}
-use Rattle.jobs.specs.Bench.{jobEnd, ended, noted, begun, turnedAway}
+use Rattle.jobs.specs.Bench.{endedIfAny, ended, noted, begun, turnedAway}
 use Rattle.jobs.specs.Frame.{jobFrame}
 use Rattle.jobs.specs.Whole.{benchIn, withBench, jobStarted, jobTurnedAway, jobEnded, jobPolled}
 use Rattle.orders.specs.declared.answer.Step.{Step}
@@ -36,12 +37,12 @@ use Rattle.orders.specs.With.{withCalReq, withMode}
 use Rattle.orders.specs.Apply.{applied, aborted}
 use Rattle.orders.specs.Switches as switches
 use Rattle.orders.specs.Ranges.{setRanges}
-use Rattle.orders.specs.Starts.{startedStep, startJob, phaseStart, energyReset, runSet, settingsSet}
+use Rattle.orders.specs.Starts.{startedStep, startJob, phaseStart, energyReset, setRun, setSettings}
 use Rattle.orders.proofs.Stated.{Carried, aborted-none, on-carried, off-carried, method-carried, coupling-carried, ranges-carried, reapply-carried}
 use Rattle.meter.specs.declared.making.Made.{Made}
 use Rattle.meter.specs.Making.{refuses, notMade, make}
 use Rattle.meter.specs.Calls.{step, after, Call, On, Off, Method, SetRanges, Coupling, ZeroJob, GainJob, PhaseStart, EnergyReset, Run, Reapply, SetSettings, Frame}
-use Rattle.meter.specs.Table.{codesOf, refusalOf, leftBy}
+use Rattle.meter.specs.Table.{refusalOf, leftBy}
 use Rattle.meter.proofs.Stated.{outside-leaves, in-job, made-with, sixInBounds, makes}
 use Rattle.meter.proofs.Table.{refused-as, leaves}
 use Rattle.book.specs.Book.{Running, idle, serving, Book, book, framed, started, strikes, asked, entry, books, blank, settingOf}
@@ -117,7 +118,7 @@ module _ (w : Calibration) (m : Pw) (b : Book) (h : Keeps w m b) where
   RoomWith j = Lengths (m .corrections .zx) (m .corrections .zd) (j .«job_zx») (j .«job_zd») (m .corrections .vgain) (j .«job_raw») (j .«job_ref»)
 
   aborted-room : RoomWith (aborted m .job)
-  unfolding aborted jobEnded withBench jobEnd ended benchIn
+  unfolding aborted jobEnded withBench endedIfAny ended benchIn
   aborted-room = either (λ (t : Bench). RoomWith (t .job)) (eqb (m .job .job) 0) {x = benchIn m} (h .rel .room) (h .rel .room)
 
   -- zeros and gains are the meter's, and no job runs
@@ -153,12 +154,12 @@ module _ (w : Calibration) (m : Pw) (b : Book) (h : Keeps w m b) where
   unfolding energyReset done marked benchIn
   reset-keeps = same-bench _ refl refl
 
-  run-keeps : (on : Bool) → Kept b (runSet m on)
-  unfolding runSet done marked benchIn
+  run-keeps : (on : Bool) → Kept b (setRun m on)
+  unfolding setRun done marked benchIn
   run-keeps on = same-bench _ refl refl
 
-  settings-keeps : (v : Settings) → Kept b (settingsSet m v)
-  unfolding settingsSet done marked benchIn
+  settings-keeps : (v : Settings) → Kept b (setSettings m v)
+  unfolding setSettings done marked benchIn
   settings-keeps v = same-bench _ refl refl
 
   -- ---- where no job runs

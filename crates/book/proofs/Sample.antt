@@ -23,7 +23,7 @@ use Rattle.takes.specs.Scales.{codeLess, rmsRoot}
 use Rattle.steps.specs.Place.{kindOf, zeroSteps, ready}
 use Rattle.steps.specs.Reading.{none, kept, zerosIn, readingOf, rawReading, dcReference, ad1Volts, distance, lpfSignal, signal}
 use Rattle.steps.specs.Verdict.{zeroMean, isDc, rawVerdict, gainVerdict, ratioVerdict, roundsDiffer}
-use Rattle.jobs.specs.Bench.{kindIn, placeIn, ended, jobEnd, stepAt, next, begun}
+use Rattle.jobs.specs.Bench.{kindIn, placeIn, ended, endedIfAny, stepAt, next, begun}
 use Rattle.jobs.specs.Step.{zeroDone, gainDone, rawDone, refDone, judged}
 use Rattle.jobs.specs.Frame.{counted, servedBy, served, jobFrame}
 use Rattle.jobs.specs.Whole.{benchIn, withBench, jobStarted, jobEnded, jobPolled}
@@ -52,17 +52,17 @@ after-calls cs = books noCalibration (newPw plainDescription noCalibration) cs b
 
 -- on, a zero job, and its 52 frames: each mean is a zero
 stores : after-calls (On 0 ∷ ZeroJob 1 ∷ replicate 52 frame) .zeros ≡ kept (replicate 6 (negsuc 1)) (replicate 6 (pos 5)) (negsuc 1)
-unfolding newPw switches.on switches.off switchedOn switchedOff applied apply aborted jobEnded withBench jobEnd benchIn late marked done deadline startJob jobStarted begun stepAt kindIn kindOf placeIn poll decoded littleEndian twosComplement taken inJob jobPolled jobFrame served servedBy counted countUp zeroDone gainDone rawDone refDone judged next ended refusedWith ready holdsAd1 holdsRmsLpf outcome finished meanX meanY zeroAt readingOf rawReading dcReference ad1Volts factor offset cal signal lpfSignal distance codeLess rmsRoot sqrtOf zeroMean halfAway isDc rawVerdict gainVerdict ratioVerdict roundsDiffer plausible within isFinite absOf vLim kv kAcv dcvNegk zerosIn atMost entryAt add sum sub neg mul div lt le eq ofBits ofInt toSigned round
+unfolding newPw switches.on switches.off switchedOn switchedOff applied apply aborted jobEnded withBench endedIfAny benchIn late marked done deadline startJob jobStarted begun stepAt kindIn kindOf placeIn poll decoded littleEndian twosComplement taken inJob jobPolled jobFrame served servedBy counted countUp zeroDone gainDone rawDone refDone judged next ended refusedWith ready holdsAd1 holdsRmsLpf outcome finished meanX meanY zeroAt readingOf rawReading dcReference ad1Volts factor offset cal signal lpfSignal distance codeLess rmsRoot sqrtOf zeroMean halfAway isDc rawVerdict gainVerdict ratioVerdict roundsDiffer plausible within isFinite absOf vLim kv kAcv dcvNegk zerosIn atMost entryAt add sum sub neg mul div lt le eq ofBits ofInt toSigned round
 stores = refl
 
 -- off before the last frame, which is then refused: none
 aborts : after-calls (On 0 ∷ ZeroJob 1 ∷ replicate 51 frame ++ (Off 2 ∷ frame ∷ [])) .zeros ≡ none
-unfolding newPw switches.on switches.off switchedOn switchedOff applied apply aborted jobEnded withBench jobEnd benchIn late marked done deadline startJob jobStarted begun stepAt kindIn kindOf placeIn poll decoded littleEndian twosComplement taken inJob jobPolled jobFrame served servedBy counted countUp zeroDone gainDone rawDone refDone judged next ended refusedWith ready holdsAd1 holdsRmsLpf outcome finished meanX meanY zeroAt readingOf rawReading dcReference ad1Volts factor offset cal signal lpfSignal distance codeLess rmsRoot sqrtOf zeroMean halfAway isDc rawVerdict gainVerdict ratioVerdict roundsDiffer plausible within isFinite absOf vLim kv kAcv dcvNegk zerosIn atMost entryAt add sum sub neg mul div lt le eq ofBits ofInt toSigned round
+unfolding newPw switches.on switches.off switchedOn switchedOff applied apply aborted jobEnded withBench endedIfAny benchIn late marked done deadline startJob jobStarted begun stepAt kindIn kindOf placeIn poll decoded littleEndian twosComplement taken inJob jobPolled jobFrame served servedBy counted countUp zeroDone gainDone rawDone refDone judged next ended refusedWith ready holdsAd1 holdsRmsLpf outcome finished meanX meanY zeroAt readingOf rawReading dcReference ad1Volts factor offset cal signal lpfSignal distance codeLess rmsRoot sqrtOf zeroMean halfAway isDc rawVerdict gainVerdict ratioVerdict roundsDiffer plausible within isFinite absOf vLim kv kAcv dcvNegk zerosIn atMost entryAt add sum sub neg mul div lt le eq ofBits ofInt toSigned round
 aborts = refl
 
 -- on, a gain job, and the 16 frames of a DC job: range 3 has its gain, which is the published Rust's
 earns : after-calls (On 0 ∷ GainJob 1 ∷ replicate 16 frame200) .gain 3 ≡ earned (ofBits binary32 0x3f80_02a9)
-unfolding newPw switches.on switches.off switchedOn switchedOff applied apply aborted jobEnded withBench jobEnd benchIn late marked done deadline startJob jobStarted begun stepAt kindIn kindOf placeIn poll decoded littleEndian twosComplement taken inJob jobPolled jobFrame served servedBy counted countUp zeroDone gainDone rawDone refDone judged next ended refusedWith ready holdsAd1 holdsRmsLpf outcome finished meanX meanY zeroAt readingOf rawReading dcReference ad1Volts factor offset cal signal lpfSignal distance codeLess rmsRoot sqrtOf zeroMean halfAway isDc rawVerdict gainVerdict ratioVerdict roundsDiffer plausible within isFinite absOf vLim kv kAcv dcvNegk zerosIn atMost entryAt add sum sub neg mul div lt le eq ofBits ofInt toSigned round
+unfolding newPw switches.on switches.off switchedOn switchedOff applied apply aborted jobEnded withBench endedIfAny benchIn late marked done deadline startJob jobStarted begun stepAt kindIn kindOf placeIn poll decoded littleEndian twosComplement taken inJob jobPolled jobFrame served servedBy counted countUp zeroDone gainDone rawDone refDone judged next ended refusedWith ready holdsAd1 holdsRmsLpf outcome finished meanX meanY zeroAt readingOf rawReading dcReference ad1Volts factor offset cal signal lpfSignal distance codeLess rmsRoot sqrtOf zeroMean halfAway isDc rawVerdict gainVerdict ratioVerdict roundsDiffer plausible within isFinite absOf vLim kv kAcv dcvNegk zerosIn atMost entryAt add sum sub neg mul div lt le eq ofBits ofInt toSigned round
 earns = refl
 
 -- frame number i of a zero job serves step i / 4

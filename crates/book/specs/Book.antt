@@ -9,6 +9,7 @@ use lib.ListN.{getD, length}
 use lib.Ieee.{Float}
 use Rattle.numbers.specs.Binary32.{_+f_, zeroF}
 use Rattle.codes.specs.declared.Codes.{Codes}
+use Rattle.codes.specs.Frame.{codesOf}
 use Rattle.tables.specs.Constants.{jrSignal, jrSmall, jrBig, jrUnstable, jrRange}
 use Rattle.tables.specs.declared.calibration.Calibration.{Calibration}
 use Rattle.state.specs.declared.Pw.{Pw}
@@ -27,7 +28,6 @@ use Rattle.steps.specs.Reading.{Zeros, none, kept, oldOf, readingOf, signal}
 use Rattle.steps.specs.Verdict.{meanOf, zeroMean, isDc, part, rawVerdict, gainVerdict}
 use Rattle.meter.specs.Making.{refuses}
 use Rattle.meter.specs.Calls.{step, Call, On, Off, Method, SetRanges, Coupling, ZeroJob, GainJob, PhaseStart, EnergyReset, Run, Reapply, SetSettings, Frame}
-use Rattle.meter.specs.Table.{codesOf}
 
 -- ---- which step a ready frame serves: "Each ready frame serves its step: the dropped ones, then three readings"
 

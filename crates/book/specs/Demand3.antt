@@ -9,6 +9,7 @@ use lib.ListN.{getD, length, replicate}
 use Rattle.numbers.specs.Binary32.{zeroF}
 use Rattle.refusals.specs.declared.Refusal.the-variants as refusal
 use Rattle.codes.specs.declared.Codes.{Codes}
+use Rattle.codes.specs.Frame.{codesOf}
 use Rattle.tables.specs.Bounds.{within}
 use Rattle.tables.specs.Constants.{jrRun, jrOk, jrAbort}
 use Rattle.tables.specs.Gain.{gainLeast, gainMost, vGainFactory, vGain}
@@ -25,7 +26,6 @@ use Rattle.orders.specs.Apply.{aborted}
 use Rattle.meter.specs.Making.{make}
 use Rattle.meter.specs.Frame.{withPoll}
 use Rattle.meter.specs.Calls.{step, after, Call, On, Off, Method, SetRanges, Coupling, ZeroJob, GainJob, PhaseStart, EnergyReset, Run, Reapply, SetSettings, Frame}
-use Rattle.meter.specs.Table.{codesOf}
 use Rattle.book.specs.Book.{RangeGain, factory, earned, Running, idle, serving, Book, blank, asked, entry, books, settingOf, placeFor, Outcome, going, struck, zeroed, gained, outcome, dcOf}
 
 -- ---- what the book's entries are in a meter

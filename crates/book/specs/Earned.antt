@@ -6,6 +6,7 @@ use mathlib.Core.Logic.{_⊎_}
 use Prim.Native.Nat.{ℕ, min}
 use lib.Ieee.{Float}
 use Rattle.codes.specs.declared.Codes.{Codes}
+use Rattle.codes.specs.Frame.{codesOf}
 use Rattle.tables.specs.declared.calibration.Calibration.{Calibration}
 use Rattle.state.specs.declared.Pw.{Pw}
 use Rattle.state.specs.declared.Ranges.{Ranges}
@@ -14,7 +15,6 @@ use Rattle.steps.specs.Place.{ready}
 use Rattle.steps.specs.Reading.{Zeros, none}
 use Rattle.meter.specs.Making.{refuses}
 use Rattle.meter.specs.Calls.{step, Call, Frame}
-use Rattle.meter.specs.Table.{codesOf}
 use Rattle.book.specs.Book.{Outcome, zeroed, gained, outcome, RangeGain, factory, earned, serving, Book, blank, settingOf, placeFor, asked, entry, books}
 
 -- the call c, on the meter m and in the book b, is an accepted frame that is ready in a job, and this is what the job's frames come to with it

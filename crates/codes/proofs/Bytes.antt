@@ -1,4 +1,4 @@
--- The number in a run of bytes: how it grows by a byte in front, and how many bits it has. Assumes nothing.
+-- The number in a run of bytes: how it grows by a byte in front, and how many bits it has.
 use mathlib.Core.Path.{_≡_, sym, ap, _∙_}
 use mathlib.Core.List.{List}
 use Prim.Native.Nat.{ℕ, suc, _+_, _-_, _*_, _^_, _≤_, _<_}

@@ -1,4 +1,4 @@
--- Two's complement of w bits: what the code of `twos_complement` asks and answers, and the range of the answer. Assumes nothing.
+-- Two's complement of w bits: what the code of `twos_complement` asks and answers, and the range of the answer.
 use mathlib.Core.Path.{_≡_, refl, sym, ap, _∙_, subst}
 use mathlib.Core.Bool.{Bool, true, false, cond}
 use Prim.Native.Nat.{ℕ, suc, _-_, _*_, _/_, _%_, _^_, _≤_, _<_}

@@ -8,6 +8,7 @@ use lib.IntN.{ℤ, pos, subℕ}
 use lib.ListN.{length, getD}
 use Rattle.refusals.specs.declared.Refusal.the-variants.{Done, Frame}
 use Rattle.refusals.specs.Number.{refusalNumber}
+use Rattle.codes.specs.declared.Codes.{Codes}
 use Rattle.codes.specs.declared.Decoded.{Decoded}
 use Rattle.codes.specs.declared.Decoded.the-variants.{Taken, Refused}
 
@@ -32,9 +33,13 @@ lpfOf bytes = twosComplement 19 (littleEndian 6 3 bytes)
 abbrev pub rmsOf : List ℕ → ℤ
 rmsOf bytes = twosComplement 38 (littleEndian 9 5 bytes)
 
--- the three codes of a frame; refused for every length but 14
+-- the three codes of a frame
+abbrev pub codesOf : List ℕ → Codes
+codesOf bytes = record { ad1 = ad1Of bytes; lpf = lpfOf bytes; rms = rmsOf bytes }
+
+-- they are taken; refused for every length but 14
 unfoldable pub decoded : List ℕ → Decoded
-decoded bytes = cond (eqb (length bytes) 14) (Taken (record { ad1 = ad1Of bytes; lpf = lpfOf bytes; rms = rmsOf bytes })) Refused
+decoded bytes = cond (eqb (length bytes) 14) (Taken (codesOf bytes)) Refused
 
 -- document 01's number of each answer: done, and refusal 4, "frame not 14 bytes"
 abbrev pub decodedNumber : Decoded → ℕ

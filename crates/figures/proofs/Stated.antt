@@ -1,8 +1,8 @@
--- Three things that follow from the definitions: an add is full exactly under refusal 6's condition, which holds of every sum "that is not finite"; what the accounting step tells; and a counted time
+-- Three things that follow from the definitions: the accounting step is full exactly under refusal 6's condition, and an add at every sum "that is not finite"; what the accounting step tells; and a counted time
 -- is within signed 64 bits.
-use mathlib.Core.Bool.{Bool, true, false, _&&_, cond, true≢false, false≢true}
-use mathlib.Core.Logic.{_⊎_, inl, inr, _↔_}
-use mathlib.Core.Path.{_≡_, refl, sym, ap, subst}
+use mathlib.Core.Bool.{Bool, true, false, not, _&&_, _||_, cond, true≢false}
+use mathlib.Core.Logic.{_⊎_, inl, inr}
+use mathlib.Core.Path.{_≡_, refl, sym, _∙_, ap, subst}
 use Prim.Native.Nat.{ℕ, _+_, _^_, _<_}
 use borrow.Author.Tests.{ltb-true}
 use lib.Dec.{ltb}
@@ -11,6 +11,7 @@ use lib.IntN.{_+ℤ_, +ℤ-idr}
 use Rattle.numbers.specs.Binary32.{_+f_, _-f_, _*f_, isFinite}
 use Rattle.figures.specs.Acc.{sumInRange, countInRange, accStep, thousand, addTo, addedAcc, addedWhole}
 use Rattle.figures.specs.Exact.{Exact}
+use Rattle.figures.specs.Full.{addFull, intervalFull, isFull}
 use Rattle.figures.specs.Tally.{seconds, energyStep, withTime, both, accountingStep, accountedNumber, accountedTally, accountedWhole, Told}
 use Rattle.figures.specs.declared.acc.Acc.{Acc}
 use Rattle.figures.specs.declared.acc.Added.the-variants as added
@@ -31,24 +32,49 @@ pub not-finite-is-full : (a : Acc) (millijoules : Float) → isFinite (a .frac +
 unfolding accStep
 not-finite-is-full a j h = rw (outside (a .frac +f j) h)
 
--- full exactly where the sum is out of range, or the count is
-pub full-exactly : (a : Acc) (millijoules : Float) → (accStep a millijoules ≡ added.Full) ↔ (sumInRange (a .frac +f millijoules) && countInRange (a .mj +ℤ toSigned 63 (a .frac +f millijoules)) ≡ false)
-unfolding accStep
-full-exactly a j = go (sumInRange x && countInRange (a .mj +ℤ toSigned 63 x))
+-- ---- full
+abbrev isFullAdd : Added → Bool
+isFullAdd (added.Sum a w) = false
+isFullAdd added.Full = true
+
+add-full : (a : Acc) (joules : Float) → isFullAdd (addTo a joules) ≡ addFull a joules
+unfolding addTo accStep
+add-full a joules = go (sumInRange x) (countInRange (a .mj +ℤ toSigned 63 x))
   where
     x : Float
-    x = a .frac +f j
+    x = a .frac +f (joules *f thousand)
 
     sum : Added
     sum = added.Sum (record { mj = a .mj +ℤ toSigned 63 x; frac = x -f ofInt binary32 (toSigned 63 x) }) (toSigned 63 x)
 
-    is-full : Added → Bool
-    is-full (added.Sum b w) = false
-    is-full added.Full = true
+    go : (s c : Bool) → isFullAdd (cond (s && c) sum added.Full) ≡ (not s || not c)
+    go true true = refl
+    go true false = refl
+    go false true = refl
+    go false false = refl
 
-    go : (t : Bool) → (cond t sum added.Full ≡ added.Full) ↔ (t ≡ false)
-    go true = ((λ h. absurd (false≢true (ap is-full h))), (λ h. absurd (true≢false h)))
-    go false = ((λ h. refl), (λ h. refl))
+energy-full : (active : Bool) (a : Acc) (joules : Float) → isFullAdd (energyStep active a joules) ≡ (active && addFull a joules)
+unfolding energyStep
+energy-full true a joules = add-full a joules
+energy-full false a joules = refl
+
+both-full : (E A : Added) (tInt dt : ℕ) → isFull (both E A tInt dt) ≡ ((isFullAdd E || isFullAdd A) || not (ltb (tInt + dt) (2 ^ 63)))
+unfolding both withTime
+both-full (added.Sum e w) (added.Sum va v) tInt dt = go (ltb (tInt + dt) (2 ^ 63))
+  where
+    go : (b : Bool) → isFull (cond b (Counted (record { e = e; va = va; «t_int» = tInt + dt }) w) Full) ≡ not b
+    go true = refl
+    go false = refl
+both-full (added.Sum e w) added.Full tInt dt = refl
+both-full added.Full A tInt dt = refl
+
+-- the accounting step is full exactly where document 01's words for number 6 hold
+pub interval-full : (t : Tally) (dt : ℕ) (p s : Float) (active : Bool) → isFull (accountingStep t dt p s active) ≡ intervalFull t dt p s active
+unfolding accountingStep
+interval-full t dt p s active =
+    both-full (energyStep active (t .e) (p *f seconds dt)) (addTo (t .va) (s *f seconds dt)) (t .«t_int») dt
+    ∙ ap (λ (b : Bool). (b || isFullAdd (addTo (t .va) (s *f seconds dt))) || not (ltb (t .«t_int» + dt) (2 ^ 63))) (energy-full active (t .e) (p *f seconds dt))
+    ∙ ap (λ (b : Bool). ((active && addFull (t .e) (p *f seconds dt)) || b) || not (ltb (t .«t_int» + dt) (2 ^ 63))) (add-full (t .va) (s *f seconds dt))
 
 -- ---- the whole millijoules
 answer-gains : (a : Acc) (j : Float) (r : Added) → Exact a j r → addedAcc a r .mj ≡ a .mj +ℤ addedWhole r

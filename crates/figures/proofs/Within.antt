@@ -16,6 +16,10 @@ use Rattle.figures.specs.Acc.{countInRange}
 abbrev most : ℕ
 most = 9223372036854775807
 
+-- what is left of it is one too
+left : (x : ℕ) → most - x < suc most
+left x = omega arith
+
 -- the range as the machine's laws have it
 range-is : (z : ℤ) → ltb (mag z) (suc most) ≡ countInRange z
 unfolding countInRange
@@ -98,9 +102,6 @@ up-test m (pos b) F G t =
       subst (λ (z : ℤ). SFits w64 z) (sym e) S,
       ap (λ (z : ℤ). leZ z (back (pos most -ℤ back (pos b)))) (toZ-ofZ w64 m F) ∙ ap (λ (z : ℤ). leZ m (back z)) e ∙ ap (leZ m) (toZ-ofZ w64 (pos (most - b)) S) ∙ up-whole m b (F .sfits) (omega arith),
     )
-  where
-    left : (x : ℕ) → most - x < suc most
-    left x = omega arith
 
 pub down-test : (m w : ℤ) → SFits w64 m → SFits w64 w → leZ (pos 0) (back w) ≡ false → SFits w64 (negsuc most -ℤ back w) × (leZ (back (negsuc most -ℤ back w)) (back m) ≡ countInRange (m +ℤ w))
 down-test m (pos b) F G t = absurd (true≢false (sym (le-leb 0 b (omega arith)) ∙ subst (λ (y : ℤ). leZ (pos 0) y ≡ false) (toZ-ofZ w64 (pos b) G) t))
@@ -112,9 +113,6 @@ down-test m (negsuc b) F G t =
       subst (λ (z : ℤ). SFits w64 z) (sym e) S,
       ap (λ (z : ℤ). leZ (back (negsuc most -ℤ back (negsuc b))) z) (toZ-ofZ w64 m F) ∙ ap (λ (z : ℤ). leZ (back z) m) e ∙ ap (λ (z : ℤ). leZ z m) (toZ-ofZ w64 n S) ∙ down-whole m b (F .sfits) (omega arith),
     )
-  where
-    left : (x : ℕ) → most - x < suc most
-    left x = omega arith
 
 -- where the test passed, the sum is an i64; and what the machine adds up is the sum
 pub sum-fits : (m w : ℤ) (t : Bool) → t ≡ countInRange (m +ℤ w) → t ≡ true → SFits w64 (m +ℤ w)

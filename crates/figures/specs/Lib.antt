@@ -3,3 +3,4 @@ pub mod Smoothing
 pub mod Acc
 pub mod Exact
 pub mod Tally
+pub mod Full

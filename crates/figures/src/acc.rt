@@ -109,7 +109,7 @@ pub fn after_add(a: Acc, joules: f32) -> After
     ensures { λ r. ⌜ r ≡ after a (addTo a joules) ⌝ }
 {
     match add_to(a, joules) {
-        Added::Sum(b, w) => After { acc: b, refusal: 0 },
+        Added::Sum(b, _) => After { acc: b, refusal: 0 },
         Added::Full => {
             let refusal = refusals::number(Refusal::Full);
             After { acc: a, refusal }

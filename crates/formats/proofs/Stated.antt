@@ -1,4 +1,4 @@
--- What follows from the definitions: a format has 1 to 4 decimals, what is shown is never minus zero, and what is over has the number 0.0.
+-- What follows from the definitions: a format has 1 to 4 decimals, and what is shown is never minus zero.
 use mathlib.Core.Path.{_≡_, refl, sym, ap, _∙_}
 use mathlib.Core.Bool.{Bool, true, false, cond, not, _&&_, _||_, true≢false}
 use Prim.Native.Nat.{ℕ, zero, suc, _≤_}
@@ -92,9 +92,3 @@ pub unless-no-minus-zero : (over : Bool) (f : Format) → f .decimals ≤ 4 → 
 unfolding shownUnless overVal
 unless-no-minus-zero true f h = plus-zero
 unless-no-minus-zero false f h = shown-no-minus-zero f h
-
--- ---- document 01: "over gives number 0.0"
-
-pub over-is-zero : (f : Format) → shownUnless true f .number ≡ zeroF
-unfolding shownUnless overVal
-over-is-zero f = refl

@@ -45,6 +45,7 @@ pub fn unit_number(unit: Unit) -> u8
     }
 }
 
+// Whether two units are the same.
 pub fn same_unit(a: Unit, b: Unit) -> bool
     ensures { λ r. ⌜ r ≡ sameUnit a b ⌝ }
 {

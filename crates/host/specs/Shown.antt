@@ -28,9 +28,13 @@ hostVal v = record { number = v .number; decimals = v .decimals; unit = unitNumb
 unfoldable pub hostReadouts : Readouts → HostReadouts
 hostReadouts r = record { main = hostVal (r .main); v = hostVal (r .v); i = hostVal (r .i); si = r .si }
 
--- what stands for the volts where there are none
+-- what stands for a readout where there is none
+abbrev pub noVal : HostVal
+noVal = record { number = zeroF; decimals = 0; unit = 0; over = false }
+
+-- a text with no volts
 unfoldable pub textOnly : ℕ → HostPartial
-textOnly text = record { text = text; «with_volts» = false; volts = record { number = zeroF; decimals = 0; unit = 0; over = false } }
+textOnly text = record { text = text; «with_volts» = false; volts = noVal }
 
 -- the text by its number, and the volts where there are any
 unfoldable pub hostPartial : Partial → HostPartial

@@ -12,21 +12,17 @@ use Rattle.orders.specs.declared.answer.Step.{Step}
 use Rattle.orders.specs.declared.ranges.Ask.{Ask}
 use Rattle.orders.specs.declared.ranges.Ask.the-variants.{Stay, Auto, Fixed}
 use Rattle.meter.specs.declared.making.Made.{Made}
-use Rattle.host.specs.declared.shown.HostVal.{HostVal}
 use Rattle.host.specs.declared.stepped.HostRead.{HostRead}
 use Rattle.host.specs.declared.stepped.HostReading.{HostReading}
 use Rattle.host.specs.declared.stepped.HostMade.{HostMade}
 use Rattle.host.specs.declared.stepped.HostStep.{HostStep}
-use Rattle.host.specs.Shown.{hostReadouts}
+use Rattle.host.specs.Shown.{noVal, hostReadouts}
 
 -- a range asked for, by its number: below 256 that range, 256 automatic, any other no change
 unfoldable pub askOf : ℕ → Ask
 askOf n = cond (ltb n 256) (Fixed n) (cond (eqb n 256) Auto Stay)
 
 -- where there is no reading every number is 0 and every mark no
-abbrev pub noVal : HostVal
-noVal = record { number = zeroF; decimals = 0; unit = 0; over = false }
-
 abbrev pub noVals : PowerVals
 noVals =
     record {

@@ -23,6 +23,14 @@ pub struct HostVal {
     pub over: bool,
 }
 
+// What stands for a readout where there is none.
+pub const NO_VAL: HostVal = HostVal {
+    number: 0.0,
+    decimals: 0,
+    unit: 0,
+    over: false,
+};
+
 // `struct pw_readouts`
 #[repr(C)]
 pub struct HostReadouts {
@@ -59,6 +67,7 @@ pub fn host_vals(answer: Vals) -> HostVals
     }
 }
 
+// One readout, its unit by the number.
 pub fn host_val(v: Val) -> HostVal
     ensures { λ r. ⌜ r ≡ hostVal v ⌝ }
 {
@@ -72,6 +81,7 @@ pub fn host_val(v: Val) -> HostVal
     }
 }
 
+// The readouts of a reading, each unit by its number.
 pub fn host_readouts(readouts: Readouts) -> HostReadouts
     ensures { λ r. ⌜ r ≡ hostReadouts readouts ⌝ }
 {
@@ -93,15 +103,11 @@ fn text_only(text: u8) -> HostPartial
     HostPartial {
         text,
         with_volts: false,
-        volts: HostVal {
-            number: 0.0,
-            decimals: 0,
-            unit: 0,
-            over: false,
-        },
+        volts: NO_VAL,
     }
 }
 
+// What is shown in place of a reading: the text by its number, and the volts where there are any.
 pub fn host_partial(partial: Partial) -> HostPartial
     ensures { λ r. ⌜ r ≡ hostPartial partial ⌝ }
 {

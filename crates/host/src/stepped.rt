@@ -4,7 +4,7 @@ ghost use Rattle.orders.specs.Answer.{refusedWith};
 ghost use Rattle.meter.specs.Frame.{frameDone};
 ghost use Rattle.host.specs.Stepped.{askOf, hostRead, hostStep, hostMade};
 use crate::shown::HostReadouts;
-use crate::shown::HostVal;
+use crate::shown::NO_VAL;
 use crate::shown::host_readouts;
 use figures::load::Figures;
 use meter::making::Made;
@@ -58,13 +58,6 @@ pub struct HostMade {
     pub refusal: u8,
     pub meter: Pw,
 }
-
-const NO_VAL: HostVal = HostVal {
-    number: 0.0,
-    decimals: 0,
-    unit: 0,
-    over: false,
-};
 
 const NO_READING: HostReading = HostReading {
     readouts: HostReadouts {
@@ -166,7 +159,7 @@ pub fn host_refused(told: Refusal, meter: Pw) -> HostStep
         meter,
         answer: HostAnswer {
             refusal,
-            mark: Stamp { set: false, at: 0 },
+            mark: Stamp::NONE,
             used: 0,
             has_reading: false,
             reading: NO_READING,
@@ -192,6 +185,7 @@ pub fn host_done(meter: Pw, mark: Stamp, used: u8, shown: Reading) -> HostStep
     }
 }
 
+// A call's step: the meter after it, and its answer with the refusal by its number.
 pub fn host_step(step: Step) -> HostStep
     ensures { λ r. ⌜ r ≡ hostStep step ⌝ }
 {
@@ -215,6 +209,7 @@ pub fn host_step(step: Step) -> HostStep
     }
 }
 
+// What the making of a meter answers, with the refusal by its number.
 pub fn host_made(made: Made) -> HostMade
     ensures { λ r. ⌜ r ≡ hostMade made ⌝ }
 {

@@ -35,7 +35,7 @@ use Rattle.steps.specs.Verdict.{zeroMean, isDc, rawVerdict, meanOf}
 use Rattle.jobs.specs.declared.bench.Bench.{Bench}
 use Rattle.jobs.specs.declared.bench.Served.{Served}
 use Rattle.jobs.specs.With.{withCalReq, withCycle, withSkip, withJob, withUsed}
-use Rattle.jobs.specs.Bench.{kindIn, placeIn, unmarked, ended, jobEnd, atStep, stepAt, next, begun}
+use Rattle.jobs.specs.Bench.{kindIn, placeIn, unmarked, ended, endedIfAny, atStep, stepAt, next, begun}
 use Rattle.jobs.specs.Step.{endedUnmarked, zxNoted, zdNoted, zerosStored, zeroDone, byRaw, rawNoted, rawDone, gainStored, byGain, refNoted, verdictIn, judged, refDone, gainDone, stepDone}
 use Rattle.jobs.specs.Frame.{summed, counted, servedBy, oneUsed, served, jobFrame}
 use Rattle.jobs.specs.Whole.{benchIn, withBench, jobStarted, jobEnded, jobPolled}
@@ -177,8 +177,8 @@ frame-goes now c flags f t e =
     (served-goes (oneUsed t) now sig r (oneUsed t) (refl, refl, (refl, refl, refl, refl), refl, refl))
 
 -- an order that ends a job right after its start leaves ranges and marks, zeros and gains as the start found them
-pub start-then-end : (now res : ℕ) (k : Kind) (b : Bench) → let e = jobEnd res (begun now k b .bench) in (e .ranges ≡ b .ranges) × (e .corrections ≡ b .corrections)
-unfolding jobEnd begun stepAt ended
+pub start-then-end : (now res : ℕ) (k : Kind) (b : Bench) → let e = endedIfAny res (begun now k b .bench) in (e .ranges ≡ b .ranges) × (e .corrections ≡ b .corrections)
+unfolding endedIfAny begun stepAt ended
 start-then-end now res Zero b = (refl, refl)
 start-then-end now res Gain b = (refl, refl)
 

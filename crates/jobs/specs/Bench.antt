@@ -39,8 +39,8 @@ ended res b =
     }
 
 -- `if job == 0 { return }`: where none runs, nothing changes
-unfoldable pub jobEnd : ℕ → Bench → Bench
-jobEnd res b = cond (eqb (b .job .job) 0) b (ended res b)
+unfoldable pub endedIfAny : ℕ → Bench → Bench
+endedIfAny res b = cond (eqb (b .job .job) 0) b (ended res b)
 
 -- ---- a step's beginning
 

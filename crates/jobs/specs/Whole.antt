@@ -9,7 +9,7 @@ use Rattle.jobs.specs.declared.bench.Bench.{Bench}
 use Rattle.jobs.specs.declared.whole.Started.{Started}
 use Rattle.jobs.specs.declared.whole.Polled.{Polled}
 use Rattle.jobs.specs.With.{withJob}
-use Rattle.jobs.specs.Bench.{jobEnd, begun, turnedAway}
+use Rattle.jobs.specs.Bench.{endedIfAny, begun, turnedAway}
 use Rattle.jobs.specs.Frame.{jobFrame}
 
 -- the part of a meter that a job works on
@@ -54,7 +54,7 @@ jobTurnedAway m k = withBench m (withJob (benchIn m) (turnedAway k (m .job)))
 
 -- a job's end by an order; where none runs nothing changes
 unfoldable pub jobEnded : Pw → ℕ → Pw
-jobEnded m res = withBench m (jobEnd res (benchIn m))
+jobEnded m res = withBench m (endedIfAny res (benchIn m))
 
 -- a frame in a job. "`t_poll` is the frame's time"; a frame that is not ready "changes only `t_poll`". The count is that of the ready frames used, this one too if it is ready. Module 7 calls it only while a job runs; where none does it is a gain job's frame
 unfoldable pub jobPolled : Pw → ℕ → ℕ → Codes → Polled

@@ -1,6 +1,6 @@
 // A job's beginning, the beginning of each of its steps, and its end.
 ghost use mathlib.Core.Path.{_≡_};
-ghost use Rattle.jobs.specs.Bench.{kindIn, placeIn, ended, jobEnd, stepAt, next, begun, turnedAway};
+ghost use Rattle.jobs.specs.Bench.{kindIn, placeIn, ended, endedIfAny, stepAt, next, begun, turnedAway};
 use state::Corrections;
 use state::Cycle;
 use state::Job;
@@ -73,7 +73,7 @@ pub(crate) fn end_with(res: u8, before: Bench) -> Bench
 
 // The same where a job runs; else nothing changes.
 pub(crate) fn end_if_any(res: u8, before: Bench) -> Bench
-    ensures { λ r. ⌜ r ≡ jobEnd res before ⌝ }
+    ensures { λ r. ⌜ r ≡ endedIfAny res before ⌝ }
 {
     let job = before.job;
     if job.job == 0 {

@@ -35,7 +35,7 @@ fn count(now: u64, reading: Reading, before: Bench) -> Served
     if n < JOB_N {
         return Served {
             bench: after,
-            mark: Stamp { set: false, at: 0 },
+            mark: Stamp::NONE,
         };
     }
     step_done(now, kind_in(job), a / 3.0, b / 3.0, after)
@@ -53,7 +53,7 @@ fn serve_by(now: u64, signal: bool, reading: Reading, before: Bench) -> Served
         after.cycle.skip = left;
         return Served {
             bench: after,
-            mark: Stamp { set: false, at: 0 },
+            mark: Stamp::NONE,
         };
     }
     if signal {
@@ -95,6 +95,6 @@ pub(crate) fn job_frame(
     }
     Served {
         bench: before,
-        mark: Stamp { set: false, at: 0 },
+        mark: Stamp::NONE,
     }
 }

@@ -29,7 +29,7 @@ pub(crate) fn end_unmarked(res: u8, before: Bench) -> Served
 {
     Served {
         bench: end_with(res, before),
-        mark: Stamp { set: false, at: 0 },
+        mark: Stamp::NONE,
     }
 }
 

@@ -1,4 +1,4 @@
--- Digits: the value of a byte in each range, the digits from an index on, and how large a number of them grows. Assumes nothing.
+-- Digits: the value of a byte in each range, the digits from an index on, and how large a number of them grows.
 use mathlib.Core.Path.{_≡_, refl, sym, ap, _∙_}
 use mathlib.Core.Bool.{Bool, true, false, cond, _&&_, false≢true}
 use mathlib.Core.List.{List, [], _∷_}

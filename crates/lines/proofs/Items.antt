@@ -1,4 +1,4 @@
--- Items: the first space from an index on, two items from an index on, and the parts of a slice as the definitions name them. Assumes nothing.
+-- Items: the first space from an index on, two items from an index on, and the parts of a slice as the definitions name them.
 use mathlib.Core.Path.{_≡_, refl, sym, ap, _∙_}
 use mathlib.Core.Bool.{Bool, true, false, cond, not, _&&_, and-false}
 use mathlib.Core.List.{List, [], _∷_}

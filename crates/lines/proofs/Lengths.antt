@@ -1,4 +1,4 @@
--- How long a line can be that is of no other spelling, so that of a longer one no more need be kept; and how many bytes a frame brings. Assumes nothing.
+-- How long a line can be that is of no other spelling, so that of a longer one no more need be kept; and how many bytes a frame brings.
 use mathlib.Core.Path.{_≡_, refl, sym, ap, _∙_}
 use mathlib.Core.Bool.{Bool, true, false, cond, _&&_, false≢true}
 use mathlib.Core.List.{List, [], _∷_, _++_}

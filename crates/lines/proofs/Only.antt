@@ -1,4 +1,4 @@
--- No other line is read: each is of another spelling, or one of the three forms. With proofs/Spelled.antt this is document 01's sentence, both ways. Assumes nothing.
+-- No other line is read: each is of another spelling, or one of the three forms. With proofs/Spelled.antt this is document 01's sentence, both ways.
 use mathlib.Core.Path.{_≡_, refl, sym, ap, _∙_, subst}
 use mathlib.Core.Bool.{Bool, true, false, cond, _&&_, false≢true}
 use mathlib.Core.List.{List, [], _∷_, _++_}

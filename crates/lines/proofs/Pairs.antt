@@ -1,4 +1,4 @@
--- The bytes that pairs of hex digits spell: how many, the one at an index, and an array that is filled with them. Assumes nothing.
+-- The bytes that pairs of hex digits spell: how many, the one at an index, and an array that is filled with them.
 use mathlib.Core.Path.{_≡_, refl, sym, ap, _∙_}
 use mathlib.Core.Bool.{true, _&&_}
 use mathlib.Core.List.{List, [], _∷_, _++_, append-assoc, append-nil}

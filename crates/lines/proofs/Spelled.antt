@@ -1,4 +1,4 @@
--- The three forms as document 01 writes them: `(on T)`, `(zero T)` and `(poll T F H)` are read as what they say, whatever T, F and H are. Assumes nothing.
+-- The three forms as document 01 writes them: `(on T)`, `(zero T)` and `(poll T F H)` are read as what they say, whatever T, F and H are.
 use mathlib.Core.Path.{_≡_, refl, sym, ap, _∙_}
 use mathlib.Core.Bool.{true, false}
 use mathlib.Core.List.{List, [], _∷_, _++_}

@@ -1,4 +1,4 @@
--- What follows from the definitions: document 01's example lines, spellings at the limits, and that a frame's bytes are those that H spells. Each of the three forms is read whatever its items are (proofs/Spelled.antt), and nothing else is (proofs/Only.antt); how long a line can be stands in proofs/Lengths.antt. Assumes nothing.
+-- What follows from the definitions: document 01's example lines, spellings at the limits, and that a frame's bytes are those that H spells. Each of the three forms is read whatever its items are (proofs/Spelled.antt), and nothing else is (proofs/Only.antt); how long a line can be stands in proofs/Lengths.antt.
 use mathlib.Core.Path.{_≡_, refl}
 use mathlib.Core.Bool.{true}
 use mathlib.Core.List.{List, [], _∷_, _++_}

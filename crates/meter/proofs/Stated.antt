@@ -12,7 +12,7 @@ use Rattle.refusals.specs.declared.Refusal.the-variants as refusal
 use Rattle.refusals.specs.Number.{refusalNumber}
 use Rattle.codes.specs.declared.Codes.{Codes}
 use Rattle.codes.specs.declared.Decoded.the-variants.{Taken, Refused}
-use Rattle.codes.specs.Frame.{decoded}
+use Rattle.codes.specs.Frame.{codesOf, decoded}
 use Rattle.tables.specs.declared.calibration.CalibrationAnswer.{CalibrationAnswer}
 use Rattle.tables.specs.declared.description.Description.{Description}
 use Rattle.tables.specs.Bounds.{every}
@@ -50,7 +50,6 @@ use Rattle.meter.specs.declared.making.Made.{Made}
 use Rattle.meter.specs.Making.{notMade, refuses, make}
 use Rattle.meter.specs.Frame.{PathEnd, accountedStep, read, valuedBy, valued, framed, measured, polledStep, inJob, taken, pollBy, poll}
 use Rattle.meter.specs.Calls.{step, Call, On, Off, Method, SetRanges, Coupling, ZeroJob, GainJob, PhaseStart, EnergyReset, Run, Reapply, SetSettings, Frame}
-use Rattle.meter.specs.Table.{codesOf}
 
 -- ---- the orders, each by how it can end
 

@@ -12,7 +12,7 @@ use Rattle.refusals.specs.declared.Refusal.the-variants as refusal
 use Rattle.refusals.specs.Number.{refusalNumber}
 use Rattle.codes.specs.declared.Codes.{Codes}
 use Rattle.codes.specs.declared.Decoded.the-variants.{Taken, Refused}
-use Rattle.codes.specs.Frame.{decoded}
+use Rattle.codes.specs.Frame.{codesOf, decoded}
 use Rattle.state.specs.declared.Pw.{Pw}
 use Rattle.state.specs.declared.Stamp.{Stamp}
 use Rattle.steps.specs.declared.place.Kind.{Kind}
@@ -28,12 +28,12 @@ use Rattle.orders.specs.Apply.{aborted}
 use Rattle.orders.specs.Switches as switches
 use Rattle.orders.specs.Switches.{switchedOn, switchedOff, methodSet, couplingSet}
 use Rattle.orders.specs.Ranges.{rangesSet, setRanges}
-use Rattle.orders.specs.Starts.{startedStep, startJob, phaseStart, energyReset, runSet, settingsSet}
+use Rattle.orders.specs.Starts.{startedStep, startJob, phaseStart, energyReset, setRun, setSettings}
 use Rattle.orders.proofs.Stated.{on-carried, off-carried, method-carried, coupling-carried, ranges-carried, reapply-carried, start-carried, phase-carried, reset-carried, run-carried, settings-carried}
 use Rattle.meter.specs.Frame.{PathEnd, accountedStep, read, valuedBy, valued, framed, measuredBy, measured, inJob, taken, pollBy, poll}
 use Rattle.meter.proofs.Full.{full-when}
 use Rattle.meter.specs.Calls.{step, Call, On, Off, Method, SetRanges, Coupling, ZeroJob, GainJob, PhaseStart, EnergyReset, Run, Reapply, SetSettings, Frame}
-use Rattle.meter.specs.Table.{codesOf, lateWhen, frameRefused, offWhen, busyWhen, methodWhen, fullRefused, fullBy, fullEnd, named, refusalOf, turnedAway, leftBy, aloneBy}
+use Rattle.meter.specs.Table.{lateWhen, frameRefused, offWhen, busyWhen, methodWhen, fullRefused, fullBy, fullEnd, named, refusalOf, turnedAway, leftBy, aloneBy}
 
 -- ---- one row of the table at a time
 
@@ -151,11 +151,11 @@ row m PhaseStart =
     test m PhaseStart (not (m .mode .on)) (off-row m PhaseStart)
     (test m PhaseStart (m .mode .alt || m .mode .dc) (method-row m PhaseStart) (accepted m PhaseStart _ (phase-carried m 0 .0)))
 row m EnergyReset = accepted m EnergyReset (energyReset m) (reset-carried m 0 .0)
-row m (Run b) = accepted m (Run b) (runSet m b) (run-carried m 0 b .0)
+row m (Run b) = accepted m (Run b) (setRun m b) (run-carried m 0 b .0)
 row m (Reapply t) =
     test m (Reapply t) (late t) (late-row m (Reapply t))
     (test m (Reapply t) (not (eqb (m .job .job) 0)) (busy-row m (Reapply t)) (accepted m (Reapply t) _ (reapply-carried m t .0)))
-row m (SetSettings s) = accepted m (SetSettings s) (settingsSet m s) (settings-carried m 0 s .0)
+row m (SetSettings s) = accepted m (SetSettings s) (setSettings m s) (settings-carried m 0 s .0)
 row m (Frame t flags bytes) = frame-rows m t flags bytes
 
 -- "When", and the order: "otherwise 5, 4, 1, 2, 3, and 6 last". "A refusal is given only under its condition"

@@ -9,7 +9,7 @@ use Rattle.orders.specs.declared.answer.Step.{Step}
 use Rattle.orders.specs.declared.ranges.Ask.{Ask}
 use Rattle.orders.specs.Switches as switches
 use Rattle.orders.specs.Ranges.{setRanges}
-use Rattle.orders.specs.Starts.{startJob, phaseStart, energyReset, runSet, settingsSet}
+use Rattle.orders.specs.Starts.{startJob, phaseStart, energyReset, setRun, setSettings}
 use Rattle.meter.specs.Frame.{poll}
 
 -- "All but phase start, energy reset, run and settings carry a time": the first number of each. The second of `Coupling` is the coupling asked for, that of `Frame` the flags, before its bytes
@@ -38,9 +38,9 @@ step m (ZeroJob t) = startJob m t Zero
 step m (GainJob t) = startJob m t Gain
 step m PhaseStart = phaseStart m
 step m EnergyReset = energyReset m
-step m (Run b) = runSet m b
+step m (Run b) = setRun m b
 step m (Reapply t) = switches.reapply m t
-step m (SetSettings s) = settingsSet m s
+step m (SetSettings s) = setSettings m s
 step m (Frame t flags bytes) = poll m t flags bytes
 
 -- the meter after the list

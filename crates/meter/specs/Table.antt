@@ -1,19 +1,13 @@
 -- Document 01's table "What the meter says back", rows 0 to 6, columns "When" and "Leaves" (7 and 8 are `make`'s), and its order: "otherwise 5, 4, 1, 2, 3, and 6 last". proofs/Table.antt has it of `step`, for every meter and every call: `refused-as`, `leaves` and `told-alone`.
 use mathlib.Core.Bool.{Bool, false, not, _&&_, _||_, cond}
 use mathlib.Core.List.{List}
-use Prim.Native.Nat.{ℕ, _+_, _^_}
-use lib.Dec.{eqb, ltb}
-use lib.Ieee.{Float, toSigned}
-use lib.IntN.{_+ℤ_}
+use Prim.Native.Nat.{ℕ}
+use lib.Dec.{eqb}
 use lib.ListN.{length}
-use Rattle.numbers.specs.Binary32.{_+f_, _*f_}
 use Rattle.refusals.specs.declared.Refusal.{Refusal}
 use Rattle.refusals.specs.declared.Refusal.the-variants as refusal
-use Rattle.codes.specs.declared.Codes.{Codes}
-use Rattle.codes.specs.Frame.{ad1Of, lpfOf, rmsOf}
-use Rattle.figures.specs.declared.acc.Acc.{Acc}
-use Rattle.figures.specs.Acc.{sumInRange, countInRange, thousand}
-use Rattle.figures.specs.Tally.{seconds}
+use Rattle.codes.specs.Frame.{codesOf}
+use Rattle.figures.specs.Full.{intervalFull}
 use Rattle.state.specs.declared.Pw.{Pw}
 use Rattle.state.specs.Counting.{elapsed}
 use Rattle.state.specs.Fresh.{noTime}
@@ -96,16 +90,11 @@ lateWhen (Frame t flags bytes) = late t
 abbrev pub frameWhen : List ℕ → Bool
 frameWhen bytes = not (eqb (length bytes) 14)
 
--- 6, full, of one energy: "a millijoule count .. outside signed 64 bits, or a sum in `Acc::add` that is not finite or outside -2^63 <= sum < 2^63" (one that is not finite is in no range)
-abbrev pub addFull : Acc → Float → Bool
-addFull a joules = let sum = a .frac +f (joules *f thousand) in not (sumInRange sum) || not (countInRange (a .mj +ℤ toSigned 63 sum))
-
--- "the accounting step would give": the interval since the last accounted frame, while running, of the energy (where it counts), the apparent energy, or the counted time
+-- 6, full: "the accounting step would give" what cannot be kept, of the interval since the last accounted frame, while running
 abbrev pub stepFull : Pw → ℕ → Bool
 stepFull m now =
-    let dt = elapsed now (m .clock .«t_last» .at) in
     (m .clock .run && m .clock .«t_last» .set)
-    && (((not (alternating (m .mode)) && addFull (m .tally .e) (m .powers .«p_tot» *f seconds dt)) || addFull (m .tally .va) (m .powers .«s_last» *f seconds dt)) || not (ltb (m .tally .«t_int» + dt) (2 ^ 63)))
+    && intervalFull (m .tally) (elapsed now (m .clock .«t_last» .at)) (m .powers .«p_tot») (m .powers .«s_last») (not (alternating (m .mode)))
 
 -- a frame is accounted outside a job, where it gives values
 abbrev pub fullBy : Pw → ℕ → Vals → Bool
@@ -114,9 +103,6 @@ fullBy after t NoValues = false
 
 abbrev pub fullEnd : ℕ → PathEnd → Bool
 fullEnd t f = f .«to_values» && fullBy (f .pw) t (pwVals (f .pw))
-
-abbrev pub codesOf : List ℕ → Codes
-codesOf bytes = record { ad1 = ad1Of bytes; lpf = lpfOf bytes; rms = rmsOf bytes }
 
 abbrev pub fullWhen : Pw → ℕ → ℕ → List ℕ → Bool
 fullWhen m t flags bytes = eqb (m .job .job) 0 && fullEnd t (framed m t flags (codesOf bytes))

@@ -67,7 +67,7 @@ fn changing_in(ledger: Ledger) -> Changing
 }
 
 // A frame with values: they are accounted, and what is shown is worked out after that.
-fn read(basis: Basis, before: Ledger, time: u64) -> Entered
+fn read_entry(basis: Basis, before: Ledger, time: u64) -> Entered
     ensures { λ r. ⌜ r ≡ readEntry basis before time ⌝ }
 {
     let load = load_of(basis);
@@ -96,7 +96,7 @@ fn entry(to_values: bool, basis: Basis, before: Ledger, time: u64) -> Entered
 {
     if to_values {
         if measured(basis.mode, basis.seen) {
-            return read(basis, before, time);
+            return read_entry(basis, before, time);
         }
     }
     Entered {

@@ -1,4 +1,4 @@
--- Rust's `as` from a float to h bits and a sign, by two tests and a truncation to 64 bits: one law over h. Assumes nothing.
+-- Rust's `as` from a float to h bits and a sign, by two tests and a truncation to 64 bits: one law over h.
 use mathlib.Core.Path.{_≡_, refl, sym, ap, _∙_, subst}
 use mathlib.Core.Bool.{Bool, true, false, not, cond, _&&_, _||_, true≢false, false≢true}
 use Prim.Native.Nat.{ℕ, zero, suc, _+_, _-_, _*_, _/_, _^_, _≤_, _<_, min}

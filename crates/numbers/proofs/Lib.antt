@@ -2,6 +2,7 @@ pub mod Cases
 pub mod Shift
 pub mod Pattern
 pub mod Order
+pub mod NoNumber
 pub mod Root
 pub mod Round
 pub mod Quotient

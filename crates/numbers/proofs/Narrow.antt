@@ -1,4 +1,4 @@
--- An f64 rounded to binary32, by its bit pattern. Assumes nothing.
+-- An f64 rounded to binary32, by its bit pattern.
 use mathlib.Core.Path.{_≡_, refl, sym, ap, _∙_, subst}
 use mathlib.Core.Logic.{_⊎_, inl, inr}
 use mathlib.Core.Bool.{Bool, true, false, true≢false}
@@ -18,6 +18,10 @@ use Rattle.numbers.specs.Convert.{roundedQuotient, narrow}
 use Rattle.numbers.proofs.Round.{at-field, no-field, size-is, kept-lo, kept-hi, units-over, units-bits-all, units-bits-low}
 use Rattle.numbers.proofs.Shift.{Shifted, shift-is, shift-in}
 use Rattle.numbers.proofs.Quotient.{quotient-is, below}
+
+-- a half is less than the whole
+half : (y z : ℕ) → y * 2 < z → y < z
+half y z p = omega arith
 
 -- ---- the fields of an f64's pattern with the sign clear
 abbrev H : ℕ
@@ -193,18 +197,12 @@ none-kept : (X : ℕ) → X * 2 < D → closest X D ≡ 0
 none-kept X h =
     let l : X < D = half X D h in
     sym (quotient-is X D) ∙ sym (below X D (subst (λ (z : ℕ). z * 2 < D) (sym (mod-eq-of-lt l)) h)) ∙ div-eq-of-lt l
-  where
-    half : (y z : ℕ) → y * 2 < z → y < z
-    half y z p = omega arith
 
 tiny : (a : ℕ) → a * 2 ^ 149 * 2 < D → ofBits binary32 0 ≡ round binary32 false a D
 tiny a h =
     let X = a * 2 ^ 149 in
     zero-bits ∙ ap (λ (z : ℕ). units binary32 false z 0) (sym (none-kept X h))
     ∙ sym (round-by a X D 0 (pow-pos 1074) (ap (λ (z : ℕ). size z - 24) (div-eq-of-lt (half X D h)) ∙ few 0 (lit< tt)) (ap (λ (z : ℕ). X * z) (sym (mul-one D))))
-  where
-    half : (y z : ℕ) → y * 2 < z → y < z
-    half y z p = omega arith
 
 in-tiny : (e t : ℕ) → t < H → e < 868 → ofBits binary32 0 ≡ narrow (ofFields binary64 false e t)
 in-tiny zero t T5 u = tiny (t * 2 ^ 0) (lt-of-le-of-lt (le-of-eq (ap (λ (z : ℕ). z * 2) (joined t 0))) (lt-of-lt-of-le (double (t * 2 ^ (0 + 149)) (52 + (0 + 149)) (shl-lt 52 (0 + 149) T5)) (pow-mono r))) ∙ sym (value-zero t)

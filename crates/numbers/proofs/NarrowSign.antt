@@ -1,4 +1,4 @@
--- `narrow` of a value with a sign, by the f64's pattern without its sign's bit. Assumes nothing.
+-- `narrow` of a value with a sign, by the f64's pattern without its sign's bit.
 use mathlib.Core.Path.{_≡_, refl, sym, ap, _∙_, subst}
 use mathlib.Core.Bool.{Bool, true, false, cond, true≢false}
 use Prim.Native.Nat.{ℕ, zero, suc, _+_, _-_, _*_, _^_, _≤_, _<_}

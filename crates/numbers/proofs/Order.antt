@@ -1,14 +1,13 @@
--- The order of floats: laws of `lt`, `le`, `eq` over every value, NaN and the infinities included. Assumes nothing.
+-- The order of floats: laws of `lt`, `le`, `eq` over every value, NaN and the infinities included.
 -- One fact carries them all: of any three values that are not NaN, each has a rank, a natural number, and `lt`, `le`, `eq` of two of them are the tests of the ranks.
 use mathlib.Core.Path.{_≡_, refl, sym, ap, _∙_}
-use mathlib.Core.Logic.{_⊎_, inl, inr}
-use mathlib.Core.Bool.{Bool, true, false, not, _&&_, _||_, Bool·beq, true≢false, false≢true}
+use mathlib.Core.Bool.{Bool, true, false, not, _&&_, _||_, Bool·beq, false≢true}
 use Prim.Native.Nat.{ℕ, suc, _+_, _-_, _*_, _≤_, _<_}
 use native.Mathlib.Nat.{add-comm, mul-assoc, mul-comm, mul-left-comm, mul-pos, mul-lt-mul-of-pos-right, lt-of-mul-lt-mul-right, eq-of-mul-eq-mul-right, not-le-of-lt}
 use native.Mathlib.Omega.{arith}
-use borrow.Author.Tests.{ltb-true, ltb-false, leb-true, leb-false, eqb-true, eqb-false, lt-ltb, le-ltb, le-leb, lt-leb, eq-eqb, ne-eqb}
+use borrow.Author.Tests.{ltb-true, ltb-false, leb-true, eqb-true, eqb-false, lt-ltb, le-ltb, le-leb, lt-leb, eq-eqb, ne-eqb}
 use lib.Dec.{leb, ltb, eqb}
-use lib.Ieee.{Float, nan, inf, fin, up, down, below, level, lt, le, eq, neg, isNan}
+use lib.Ieee.{Float, nan, inf, fin, up, down, below, level, lt, le, eq, neg}
 use lib.Ieee.Positive.{num, den, den-pos}
 
 -- ---- tests on numbers are equal where the facts they stand for are the same
@@ -175,9 +174,7 @@ pub record Ranks (x y z : Float) : Type 0 where
   pub xy : Agree x p y q
   pub yx : Agree y q x p
   pub yz : Agree y q z r
-  pub zy : Agree z r y q
   pub xz : Agree x p z r
-  pub zx : Agree z r x p
 
 pub ranks : (x y z : Float) → Number x → Number y → Number z → Ranks x y z
 ranks x y z N M L =
@@ -200,9 +197,7 @@ ranks x y z N M L =
       xy = pair top x a y b N M A B e X Y;
       yx = pair top y b x a M N B A (sym e) Y X;
       yz = pair top y b z c M L B C f Y Z;
-      zy = pair top z c y b L M C B (sym f) Z Y;
       xz = pair top x a z c N L A C (e ∙ f) X Z;
-      zx = pair top z c x a L N C A (sym (e ∙ f)) Z X;
     }
 
 -- ---- a comparison that passed had no NaN
@@ -246,18 +241,6 @@ module _ (x y : Float) where
       let k = two (n .0) (n .1) in
       k.yx .0 ∙ le-ltb k.q k.p (omega (arith, ltb-true k.p k.q (sym (k.xy .0) ∙ h)))
 
-  pub lt→le : lt x y ≡ true → le x y ≡ true
-  lt→le h =
-      let n = lt-numbers x y h in
-      let k = two (n .0) (n .1) in
-      k.xy .1 ∙ le-leb k.p k.q (omega (arith, ltb-true k.p k.q (sym (k.xy .0) ∙ h)))
-
-  pub eq→le : eq x y ≡ true → le x y ≡ true
-  eq→le h =
-      let n = eq-numbers x y h in
-      let k = two (n .0) (n .1) in
-      k.xy .1 ∙ le-leb k.p k.q (omega (arith, eqb-true k.p k.q (sym (k.xy .2) ∙ h)))
-
   pub eq-sym : eq x y ≡ true → eq y x ≡ true
   eq-sym h =
       let n = eq-numbers x y h in
@@ -270,35 +253,17 @@ module _ (x y : Float) where
       let k = two (n .0) (n .1) in
       k.yx .1 ∙ lt-leb k.q k.p (omega (arith, ltb-true k.p k.q (sym (k.xy .0) ∙ h)))
 
-  pub le→nlt : le x y ≡ true → lt y x ≡ false
-  le→nlt h =
-      let n = le-numbers x y h in
-      let k = two (n .0) (n .1) in
-      k.yx .0 ∙ le-ltb k.q k.p (omega (arith, leb-true k.p k.q (sym (k.xy .1) ∙ h)))
-
   -- of two numbers, one is no more than the other
   pub nlt→le : Number x → Number y → lt x y ≡ false → le y x ≡ true
   nlt→le N M h =
       let k = two N M in
       k.yx .1 ∙ le-leb k.q k.p (omega (arith, ltb-false k.p k.q (sym (k.xy .0) ∙ h)))
 
-  pub nle→lt : Number x → Number y → le x y ≡ false → lt y x ≡ true
-  nle→lt N M h =
-      let k = two N M in
-      k.yx .0 ∙ lt-ltb k.q k.p (omega (arith, leb-false k.p k.q (sym (k.xy .1) ∙ h)))
-
   pub le-antisym : le x y ≡ true → le y x ≡ true → eq x y ≡ true
   le-antisym h g =
       let n = le-numbers x y h in
       let k = two (n .0) (n .1) in
       k.xy .2 ∙ eq-eqb k.p k.q (omega (arith, leb-true k.p k.q (sym (k.xy .1) ∙ h), leb-true k.q k.p (sym (k.yx .1) ∙ g)))
-
-pub le-total : (x y : Float) → Number x → Number y → (le x y ≡ true) ⊎ (le y x ≡ true)
-le-total x y N M = go (le x y) refl
-  where
-    go : (t : Bool) → le x y ≡ t → (le x y ≡ true) ⊎ (le y x ≡ true)
-    go true e = inl e
-    go false e = inr (lt→le y x (nle→lt x y N M e))
 
 -- ---- one value
 pub lt-irrefl : (x : Float) → lt x x ≡ false
@@ -307,12 +272,6 @@ lt-irrefl x = go (lt x x) refl
     go : (t : Bool) → lt x x ≡ t → lt x x ≡ false
     go true e = lt-asym x x e
     go false e = e
-
-pub le-refl : (x : Float) → Number x → le x x ≡ true
-le-refl x N = nlt→le x x N N (lt-irrefl x)
-
-pub eq-refl : (x : Float) → Number x → eq x x ≡ true
-eq-refl x N = le-antisym x x (le-refl x N) (le-refl x N)
 
 -- ---- three values
 module _ (x y z : Float) where
@@ -333,18 +292,6 @@ module _ (x y z : Float) where
       let n = lt-numbers x y g in
       let k = ranks x y z (n .0) (n .1) (le-numbers y z h .1) in
       k.xz .0 ∙ lt-ltb k.p k.r (omega (arith, ltb-true k.p k.q (sym (k.xy .0) ∙ g), leb-true k.q k.r (sym (k.yz .1) ∙ h)))
-
-  pub le-trans : le x y ≡ true → le y z ≡ true → le x z ≡ true
-  le-trans g h =
-      let n = le-numbers x y g in
-      let k = ranks x y z (n .0) (n .1) (le-numbers y z h .1) in
-      k.xz .1 ∙ le-leb k.p k.r (omega (arith, leb-true k.p k.q (sym (k.xy .1) ∙ g), leb-true k.q k.r (sym (k.yz .1) ∙ h)))
-
-  pub eq-trans : eq x y ≡ true → eq y z ≡ true → eq x z ≡ true
-  eq-trans g h =
-      let n = eq-numbers x y g in
-      let k = ranks x y z (n .0) (n .1) (eq-numbers y z h .1) in
-      k.xz .2 ∙ eq-eqb k.p k.r (omega (arith, eqb-true k.p k.q (sym (k.xy .2) ∙ g), eqb-true k.q k.r (sym (k.yz .2) ∙ h)))
 
 -- ---- the other way round
 below-neg : (s : Bool) (a : ℕ) (t : Bool) (b : ℕ) → below (not s) a (not t) b ≡ below t b s a
@@ -399,49 +346,3 @@ eq-comm x y = go (eq x y) (eq y x) refl refl
 pub le-neg : (x y : Float) → le (neg x) (neg y) ≡ le y x
 unfolding le
 le-neg x y = ap (λ (b : Bool). b || eq (neg x) (neg y)) (lt-neg x y) ∙ ap (λ (b : Bool). lt y x || b) (eq-neg x y ∙ eq-comm x y)
-
--- ---- a NaN fails every comparison
-pub lt-nan : (x : Float) → lt x nan ≡ false
-unfolding lt
-lt-nan nan = refl
-lt-nan (inf s) = refl
-lt-nan (fin s m e) = refl
-
-pub eq-nan : (x : Float) → eq x nan ≡ false
-unfolding eq
-eq-nan nan = refl
-eq-nan (inf s) = refl
-eq-nan (fin s m e) = refl
-
-pub le-nan : (x : Float) → le x nan ≡ false
-unfolding le
-le-nan x = ap (λ (b : Bool). b || eq x nan) (lt-nan x) ∙ eq-nan x
-
--- ---- a number is what is no NaN
-pub number : (x : Float) → isNan x ≡ false → Number x
-unfolding isNan
-number nan h = absurd (true≢false h)
-number (inf s) h = tt
-number (fin s m e) h = tt
-
-pub number-is : (x : Float) → Number x → isNan x ≡ false
-unfolding isNan
-number-is nan h = absurd h
-number-is (inf s) h = refl
-number-is (fin s m e) h = refl
-
--- ---- of two numbers one is less, or they are equal
-pub three-ways : (x y : Float) → Number x → Number y → (lt x y ≡ true) ⊎ (eq x y ≡ true) ⊎ (lt y x ≡ true)
-three-ways x y N M = go (lt x y) (lt y x) refl refl
-  where
-    go : (t u : Bool) → lt x y ≡ t → lt y x ≡ u → (lt x y ≡ true) ⊎ (eq x y ≡ true) ⊎ (lt y x ≡ true)
-    go true u e f = inl e
-    go false true e f = inr (inr f)
-    go false false e f = inr (inl (le-antisym x y (nlt→le y x M N f) (nlt→le x y N M e)))
-
--- ---- equal floats compare alike
-pub lt-eq-l : (x y z : Float) → eq x y ≡ true → lt x z ≡ true → lt y z ≡ true
-lt-eq-l x y z e h = le-lt-trans y x z (eq→le y x (eq-sym x y e)) h
-
-pub lt-eq-r : (x y z : Float) → eq x y ≡ true → lt z x ≡ true → lt z y ≡ true
-lt-eq-r x y z e h = lt-le-trans z x y h (eq→le x y e)

@@ -1,4 +1,4 @@
--- Bit patterns of both formats: the test `x != x`, the sign's bit, and which patterns are no NaN's. Assumes nothing.
+-- Bit patterns of both formats: the test `x != x`, the sign's bit, and which patterns are no NaN's.
 use mathlib.Core.Path.{_≡_, refl, sym, ap, _∙_, subst}
 use mathlib.Core.Bool.{Bool, true, false, not, _&&_, cond, true≢false, false≢true}
 use Prim.Native.Nat.{ℕ, zero, suc, _+_, _*_, _%_, _≤_, _<_}

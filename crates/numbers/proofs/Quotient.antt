@@ -1,4 +1,4 @@
--- `rounded_quotient`: twice the remainder against the divisor. Assumes nothing.
+-- `rounded_quotient`: twice the remainder against the divisor.
 use mathlib.Core.Path.{_≡_, refl, sym, ap, _∙_}
 use mathlib.Core.Bool.{true, false, true≢false, false≢true}
 use Prim.Native.Nat.{ℕ, _+_, _*_, _/_, _%_, _≤_, _<_, compare, Ordering, Ordering·lt, Ordering·eq, Ordering·gt}

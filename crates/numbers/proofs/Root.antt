@@ -1,4 +1,4 @@
--- The seed of the root: for an x above zero it is a pattern of a number. Assumes nothing.
+-- The seed of the root: for an x above zero it is a pattern of a number.
 use mathlib.Core.Path.{_≡_, refl, sym, ap, _∙_, subst}
 use mathlib.Core.Bool.{Bool, true, false, not, _&&_, _||_, true≢false}
 use Prim.Native.Nat.{ℕ, zero, suc, _+_, _*_, _/_, _≤_, _<_}

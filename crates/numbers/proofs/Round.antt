@@ -1,4 +1,4 @@
--- `round` at binary32 by bit patterns: the pattern k * 2 ^ 23 + q is the value of q * 2 ^ k smallest values. Assumes nothing.
+-- `round` at binary32 by bit patterns: the pattern k * 2 ^ 23 + q is the value of q * 2 ^ k smallest values.
 use mathlib.Core.Path.{_≡_, refl, sym, ap, _∙_, subst}
 use mathlib.Core.Logic.{inl, inr}
 use mathlib.Core.Bool.{Bool, false, cond}

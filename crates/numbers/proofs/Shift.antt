@@ -1,4 +1,4 @@
--- `1u64 << k` is 2 ^ k, for every k that the shift allows. Assumes nothing.
+-- `1u64 << k` is 2 ^ k, for every k that the shift allows.
 use mathlib.Core.Path.{_≡_, sym, _∙_, subst}
 use Prim.Native.Nat.{ℕ, _+_, _*_, _%_, _^_, _≤_, _<_}
 use native.Mathlib.Nat.{one-mul}

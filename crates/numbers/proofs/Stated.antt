@@ -1,4 +1,4 @@
--- What document 01 says of `max` and of the root, as theorems about the definitions. Assumes nothing.
+-- What document 01 says of `max` and of the root, as theorems about the definitions.
 use mathlib.Core.Path.{_≡_, refl}
 use mathlib.Core.Bool.{true, false}
 use lib.IntN.{pos}

@@ -1,4 +1,4 @@
--- `u64_to_f32`: the leading zeros give the exponent. Assumes nothing.
+-- `u64_to_f32`: the leading zeros give the exponent.
 use mathlib.Core.Path.{_≡_, refl, sym, ap, _∙_, subst}
 use mathlib.Core.Bool.{false}
 use Prim.Native.Nat.{ℕ, suc, _+_, _-_, _*_, _/_, _%_, _^_, _≤_, _<_}

@@ -22,7 +22,7 @@ use Rattle.steps.specs.declared.place.Kind.{Kind}
 use Rattle.steps.specs.Place.{settleOf}
 use Rattle.phase.specs.Phase.{calStarted}
 use Rattle.jobs.specs.declared.bench.Bench.{Bench}
-use Rattle.jobs.specs.Bench.{placeIn, atStep, noted, ended, jobEnd, stepAt, begun}
+use Rattle.jobs.specs.Bench.{placeIn, atStep, noted, ended, endedIfAny, stepAt, begun}
 use Rattle.jobs.specs.Whole.{benchIn, withBench, jobStarted, jobTurnedAway, jobEnded}
 use Rattle.jobs.proofs.Stated.{settle-of}
 use Rattle.orders.specs.declared.answer.Step.{Step}
@@ -33,7 +33,7 @@ use Rattle.orders.specs.Answer.{marked, done}
 use Rattle.orders.specs.Apply.{applied, appliedIfOn, aborted}
 use Rattle.orders.specs.Switches.{switchedOn, switchedOff, methodSet, takesForce, couplingSet}
 use Rattle.orders.specs.Ranges.{vAsked, iAsked, barredAsked, sameRanges, keepOf, rangesSet}
-use Rattle.orders.specs.Starts.{startedStep, energyReset, runSet, settingsSet}
+use Rattle.orders.specs.Starts.{startedStep, energyReset, setRun, setSettings}
 
 -- what no order changes: description and words, zeros and gains, smoothed values, the powers of the next interval, since when the current is above its limit, the ring, and the last frame's time
 abbrev pub Leaves : Pw → Pw → Type 0
@@ -53,7 +53,7 @@ Carried t m j w s =
 
 -- "first end a job with `JR_ABORT`": none runs after it
 pub aborted-none : (m : Pw) → aborted m .job .job ≡ 0
-unfolding aborted jobEnded withBench jobEnd ended benchIn
+unfolding aborted jobEnded withBench endedIfAny ended benchIn
 aborted-none m = go (eqb (m .job .job) 0) (eqb-true (m .job .job) 0)
   where
     go : (none : Bool) → (none ≡ true → m .job .job ≡ 0) → cond none (benchIn m) (ended jrAbort (benchIn m)) .job .job ≡ 0
@@ -63,16 +63,16 @@ aborted-none m = go (eqb (m .job .job) 0) (eqb-true (m .job .job) 0)
 -- one that ran has ended with `JR_ABORT`; "ranges and marks become those noted", and the host is to re-apply if the meter is on
 pub aborted-running : (m : Pw) → eqb (m .job .job) 0 ≡ false
     → (aborted m .job .«job_res» ≡ jrAbort) × (aborted m .ranges ≡ m .job .«job_save») × (aborted m .mode ≡ withCalReq (m .mode) (m .mode .on))
-unfolding aborted jobEnded withBench jobEnd ended benchIn
+unfolding aborted jobEnded withBench endedIfAny ended benchIn
 aborted-running m e = (rw (e), rw (e), rw (e))
 
 -- where none runs nothing changes
 pub aborted-idle : (m : Pw) → eqb (m .job .job) 0 ≡ true → aborted m ≡ m
-unfolding aborted jobEnded withBench jobEnd benchIn
+unfolding aborted jobEnded withBench endedIfAny benchIn
 aborted-idle m e = rw (e)
 
 aborted-leaves : (m : Pw) → Leaves m (aborted m)
-unfolding aborted jobEnded withBench jobEnd ended benchIn
+unfolding aborted jobEnded withBench endedIfAny ended benchIn
 aborted-leaves m =
     either (λ (b : Bench). Leaves m (withBench m b)) (eqb (m .job .job) 0) {x = benchIn m} {y = ended jrAbort (benchIn m)} (leaves-all m) (leaves-all m)
 
@@ -142,12 +142,12 @@ module _ (m : Pw) (t : ℕ) where
   unfolding energyReset
   reset-carried = done-carried t m (m .job) (m .settings) (withTally m freshTally (withTLast (m .clock) noTime)) (leaves-all m) refl refl
 
-  pub run-carried : (b : Bool) → Carried t m (m .job) (m .settings) (runSet m b)
-  unfolding runSet
+  pub run-carried : (b : Bool) → Carried t m (m .job) (m .settings) (setRun m b)
+  unfolding setRun
   run-carried b = done-carried t m (m .job) (m .settings) (withTally m (m .tally) (withRun (m .clock) b)) (leaves-all m) refl refl
 
-  pub settings-carried : (w : Settings) → Carried t m (m .job) w (settingsSet m w)
-  unfolding settingsSet
+  pub settings-carried : (w : Settings) → Carried t m (m .job) w (setSettings m w)
+  unfolding setSettings
   settings-carried w = done-carried t m (m .job) w (withSettings m w) (leaves-all m) refl refl
 
 -- a start that is refused with 3 changes the job's record alone

@@ -39,9 +39,9 @@ unfoldable pub energyReset : Pw → Step
 energyReset m = done (withTally m freshTally (withTLast (m .clock) noTime))
 
 -- only `run`
-unfoldable pub runSet : Pw → Bool → Step
-runSet m b = done (withClock m (withRun (m .clock) b))
+unfoldable pub setRun : Pw → Bool → Step
+setRun m b = done (withClock m (withRun (m .clock) b))
 
 -- "settings (`comp`, `r_path`, `i_cont`, `t_lim`, `main`, any bits)": these five, on or off, in a job too. It carries no time, and nothing refuses it
-unfoldable pub settingsSet : Pw → Settings → Step
-settingsSet m s = done (withSettings m s)
+unfoldable pub setSettings : Pw → Settings → Step
+setSettings m s = done (withSettings m s)

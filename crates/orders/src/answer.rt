@@ -31,6 +31,7 @@ pub struct Step {
 // The first time that is refused, 2^48 ms.
 const LATE: u64 = 281474976710656;
 
+// Whether a call's time is too late for it, refusal 5.
 pub fn late(time: u64) -> bool
     ensures { λ r. ⌜ r ≡ late time ⌝ }
 {
@@ -45,7 +46,7 @@ pub fn refused_with(refusal: Refusal, pw: Pw) -> Step
         pw,
         answer: Answer {
             refusal,
-            mark: Stamp { set: false, at: 0 },
+            mark: Stamp::NONE,
             used: 0,
             reading: Reading::NoReading,
         },
@@ -71,6 +72,6 @@ pub fn marked(pw: Pw, mark: Stamp) -> Step
 pub fn done(pw: Pw) -> Step
     ensures { λ r. ⌜ r ≡ done pw ⌝ }
 {
-    let none = Stamp { set: false, at: 0 };
+    let none = Stamp::NONE;
     marked(pw, none)
 }

@@ -1,7 +1,7 @@
 // The orders that start something: zero job, gain job, phase start; energy reset, run and settings.
 ghost use mathlib.Core.Path.{_≡_};
 ghost use Rattle.steps.specs.declared.place.Kind.the-variants.{Zero, Gain};
-ghost use Rattle.orders.specs.Starts.{startJob, phaseStart, energyReset, runSet, settingsSet};
+ghost use Rattle.orders.specs.Starts.{startJob, phaseStart, energyReset, setRun, setSettings};
 use crate::answer::Step;
 use crate::answer::done;
 use crate::answer::late;
@@ -77,7 +77,7 @@ pub fn energy_reset(before: Pw) -> Step
     ensures { λ r. ⌜ r ≡ energyReset before ⌝ }
 {
     let tally = Tally::ZERO;
-    let none = Stamp { set: false, at: 0 };
+    let none = Stamp::NONE;
     let mut clock = before.clock;
     clock.t_last = none;
     let mut after = before;
@@ -88,16 +88,16 @@ pub fn energy_reset(before: Pw) -> Step
 
 // Whether energy is counted.
 pub fn set_run(before: Pw, run: bool) -> Step
-    ensures { λ r. ⌜ r ≡ runSet before run ⌝ }
+    ensures { λ r. ⌜ r ≡ setRun before run ⌝ }
 {
     let mut after = before;
     after.clock.run = run;
     done(after)
 }
 
-// Compensation, path resistances, the limits of current and time, and the main readout: any bits.
+// The order `settings`: all five fields, of any bits, on or off, in a job too.
 pub fn set_settings(before: Pw, settings: Settings) -> Step
-    ensures { λ r. ⌜ r ≡ settingsSet before settings ⌝ }
+    ensures { λ r. ⌜ r ≡ setSettings before settings ⌝ }
 {
     let mut after = before;
     after.settings = settings;

@@ -44,7 +44,7 @@ pub(crate) fn ends(measuring: Measuring) -> Outcome
 {
     Outcome {
         measuring,
-        mark: Stamp { set: false, at: 0 },
+        mark: Stamp::NONE,
         to_values: false,
         ad1_taken: false,
     }
@@ -56,7 +56,7 @@ pub(crate) fn goes_on(measuring: Measuring) -> Outcome
 {
     Outcome {
         measuring,
-        mark: Stamp { set: false, at: 0 },
+        mark: Stamp::NONE,
         to_values: true,
         ad1_taken: false,
     }

@@ -6,6 +6,7 @@ use state::Pw;
 use state::Ring;
 use takes::scales::Instrument;
 
+// What a path reads and never changes: the description, the calibration words and the corrections.
 pub fn instrument_in(pw: Pw) -> Instrument
     ensures { λ r. ⌜ r ≡ instrumentIn pw ⌝ }
 {
@@ -19,6 +20,7 @@ pub fn instrument_in(pw: Pw) -> Instrument
     }
 }
 
+// What a path may change.
 pub fn measuring_in(pw: Pw) -> Measuring
     ensures { λ r. ⌜ r ≡ measuringIn pw ⌝ }
 {
@@ -37,6 +39,7 @@ pub fn measuring_in(pw: Pw) -> Measuring
     }
 }
 
+// The meter with what a path has changed, and with the ring; all else stays.
 pub fn with_measuring(before: Pw, measuring: Measuring, ring: Ring) -> Pw
     ensures { λ r. ⌜ r ≡ withMeasuring before measuring ring ⌝ }
 {

@@ -49,7 +49,7 @@ pub fn cal_number(outcome: CalOutcome) -> u8
     ensures { λ r. ⌜ r ≡ calNumber outcome ⌝ }
 {
     match outcome {
-        CalOutcome::Steps(steps) => CAL_OK,
+        CalOutcome::Steps(_) => CAL_OK,
         CalOutcome::Flat => CAL_FLAT,
         CalOutcome::Range => CAL_RANGE,
     }

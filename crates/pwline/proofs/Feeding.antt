@@ -1,4 +1,4 @@
--- The bytes of a part from an index on, and the line that is kept. Assumes nothing.
+-- The bytes of a part from an index on, and the line that is kept.
 use mathlib.Core.Path.{_≡_, refl, sym, ap, _∙_}
 use mathlib.Core.Bool.{Bool, true, false}
 use mathlib.Core.List.{List}

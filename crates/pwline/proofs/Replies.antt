@@ -1,4 +1,4 @@
--- The reply to a line by what the line was read as. Assumes nothing.
+-- The reply to a line by what the line was read as.
 use mathlib.Core.Path.{_≡_, sym, ap, _∙_, subst}
 use mathlib.Core.List.{List}
 use Prim.Native.Nat.{ℕ, _≤_}

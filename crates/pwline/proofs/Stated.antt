@@ -1,4 +1,4 @@
--- What `pwline` writes for a whole input: feeding its bytes one by one writes document 01's answers to its lines, long lines among them, of which no more than 128 bytes are kept. Assumes nothing.
+-- What `pwline` writes for a whole input: feeding its bytes one by one writes document 01's answers to its lines, long lines among them, of which no more than 128 bytes are kept.
 use mathlib.Core.Path.{_≡_, refl, sym, ap, _∙_}
 use mathlib.Core.Bool.{Bool, true, false, cond}
 use mathlib.Core.List.{List, [], _∷_, _++_, append-nil}

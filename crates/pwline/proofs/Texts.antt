@@ -1,4 +1,4 @@
--- Texts: an array that is filled from an index on, and a number's decimal digits as io::decimal gives them. Assumes nothing.
+-- Texts: an array that is filled from an index on, and a number's decimal digits as io::decimal gives them.
 use mathlib.Core.Path.{_≡_, refl, sym, ap, _∙_, subst}
 use mathlib.Core.Bool.{Bool, true, false}
 use mathlib.Core.List.{List, [], _∷_, _++_}

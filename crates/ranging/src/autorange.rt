@@ -39,7 +39,7 @@ fn stays(before: Ranging) -> Ranged
 {
     Ranged {
         ranging: before,
-        mark: Stamp { set: false, at: 0 },
+        mark: Stamp::NONE,
     }
 }
 

@@ -60,6 +60,7 @@ fn ranging(pw: Pw) -> Partial
     }
 }
 
+// The source's `pw_partial`: by whether the meter is on, the job, and whether there is a reading.
 pub fn pw_partial(pw: Pw) -> Partial
     ensures { λ r. ⌜ r ≡ pwPartial pw ⌝ }
 {

@@ -137,6 +137,7 @@ fn main_readout(pv: PowerVals) -> Val
     }
 }
 
+// The source's `reading_vals`: the readouts of the values.
 pub fn reading_vals(pv: PowerVals) -> Readouts
     ensures { λ r. ⌜ r ≡ readingVals pv ⌝ }
 {

@@ -27,7 +27,8 @@ pub struct Stamp {
 }
 
 impl Stamp {
-    const NONE: Stamp = Stamp { set: false, at: 0 };
+    // No time.
+    pub const NONE: Stamp = Stamp { set: false, at: 0 };
 }
 
 // What the meter does: on, the alternating method, the coupling asked for, DC coupling in force, and
@@ -156,7 +157,8 @@ impl Clock {
     };
 }
 
-// What the order `settings` brings.
+// Whether the drop in the meter's own path is taken off, the path's ohms by unit, the limit of the
+// continuous current in A with the seconds allowed above it, and the main readout: the order `settings`.
 #[repr(C)]
 pub struct Settings {
     pub comp: bool,

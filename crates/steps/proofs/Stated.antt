@@ -7,9 +7,10 @@ use borrow.Author.Tests.{ltb-true, ltb-false, lt-ltb, le-ltb}
 use lib.Dec.{ltb}
 use lib.IntN.{ℤ, pos, negsuc, negℤ}
 use lib.Signed.{ltZ}
-use lib.Ieee.{Float, nan, inf, fin, add, mul, div, up, down, toSigned}
-use Rattle.numbers.specs.Binary32.{_+f_, _*f_, _/f_, isFinite}
+use lib.Ieee.{Float, nan, inf, fin, add, up, down, toSigned}
+use Rattle.numbers.specs.Binary32.{_/f_, isFinite}
 use Rattle.numbers.specs.Convert.{halfF, halfAway}
+use Rattle.numbers.proofs.NoNumber.{plus-nan, times-nan, over-nan, nan-over}
 use Rattle.codes.specs.declared.Codes.{Codes}
 use Rattle.tables.specs.Constants.{jobN, zeroMaxAd1}
 use Rattle.tables.specs.Gain.{plausible}
@@ -127,28 +128,6 @@ good-plausible raw0 ref0 raw1 ref1 g e =
     sym (ap plausibleIn e) ∙ held (ref0 /f raw0) (ref1 /f raw1) (halfSum (ref0 /f raw0) (ref1 /f raw1)) (steady raw0 raw1)
 
 -- ---- a NaN among the four means is unstable
-
-plus-nan : (x : Float) → x +f nan ≡ nan
-unfolding add
-plus-nan nan = refl
-plus-nan (inf s) = refl
-plus-nan (fin s m e) = refl
-
-times-nan : (x : Float) → x *f nan ≡ nan
-unfolding mul
-times-nan nan = refl
-times-nan (inf s) = refl
-times-nan (fin s m e) = refl
-
-over-nan : (x : Float) → x /f nan ≡ nan
-unfolding div
-over-nan nan = refl
-over-nan (inf s) = refl
-over-nan (fin s m e) = refl
-
-nan-over : (x : Float) → nan /f x ≡ nan
-unfolding div
-nan-over x = refl
 
 module _ (r0 r1 : Float) (still : Bool) where
   first : r0 ≡ nan → ratioVerdict r0 r1 (halfSum r0 r1) still ≡ Unstable

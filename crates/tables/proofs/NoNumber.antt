@@ -1,12 +1,12 @@
 -- What the window's rule gives where the middle is a NaN or infinite, or the swing a NaN: none.
-use mathlib.Core.Path.{_≡_, refl, sym, _∙_, subst}
+use mathlib.Core.Path.{_≡_, sym, _∙_, subst}
 use mathlib.Core.Logic.{inl, inr}
 use mathlib.Core.Bool.{Bool, true, false, _&&_, true≢false}
 use Prim.Native.Nat.{ℕ, _<_, _≤_}
 use native.Mathlib.Nat.{not-le-of-lt}
 use lib.Dec.{T}
-use lib.Ieee.{Float, nan, inf, fin, add, sub, mul, neg, sum, lt, ofBits, round}
-use Rattle.numbers.specs.Binary32.{_+f_}
+use lib.Ieee.{Float, nan, inf, add, sub, mul, neg, sum, lt, ofBits, round}
+use Rattle.numbers.proofs.NoNumber.{plus-nan}
 use Rattle.numbers.proofs.Order.{lt-numbers, le-numbers, lt→nle}
 use Rattle.tables.proofs.Both.{and-l, and-r, holds}
 use Rattle.tables.specs.Bounds.{every}
@@ -22,17 +22,11 @@ pub middle-nan : (a : Float) → cmpWindow nan a ≡ NoWindow
 unfolding clears away add sum
 middle-nan a = none-exactly nan a .1 (inl (λ j s. le-numbers nan (level Upper j) (s .1) .0))
 
-sum-nan : (x : Float) → x +f nan ≡ nan
-unfolding add sum
-sum-nan nan = refl
-sum-nan (inf s) = refl
-sum-nan (fin s m e) = refl
-
 pub swing-nan : (c : Float) → cmpWindow c nan ≡ NoWindow
 unfolding inside nearer away mul ofBits
 swing-nan c =
     none-exactly c nan .1
-    (inl (λ j s. lt-numbers (level Upper j) nan (subst (λ (x : Float). lt (level Upper j) x ≡ true) (sum-nan c) (s .2)) .1))
+    (inl (λ j s. lt-numbers (level Upper j) nan (subst (λ (x : Float). lt (level Upper j) x ≡ true) (plus-nan c) (s .2)) .1))
 
 -- ---- every level lies between the infinities: a computed test
 abbrev between : Float → Bool

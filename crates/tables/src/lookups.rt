@@ -29,49 +29,56 @@ fn entry(table: &[f32], k: u8) -> f32
     }
 }
 
+// The volts of a V range.
 pub fn v_lim(vr: u8) -> f32
     ensures { λ r. ⌜ r ≡ entryAt nan vLim vr ⌝ }
 {
     entry(&V_LIM, vr)
 }
 
+// The amperes of an I range.
 pub fn i_lim(ik: u8) -> f32
     ensures { λ r. ⌜ r ≡ entryAt nan iLim ik ⌝ }
 {
     entry(&I_LIM, ik)
 }
 
+// The ohms of the shunt of a current unit.
 pub fn shunt_ohm(iu: u8) -> f32
     ensures { λ r. ⌜ r ≡ entryAt nan shuntOhm iu ⌝ }
 {
     entry(&SHUNT_OHM, iu)
 }
 
+// Volts at the jack for a volt at the V channel's converter.
 pub fn kv(vr: u8) -> f32
     ensures { λ r. ⌜ r ≡ entryAt nan kv vr ⌝ }
 {
     entry(&KV, vr)
 }
 
+// The same in the AC V rows.
 pub fn k_acv(vr: u8) -> f32
     ensures { λ r. ⌜ r ≡ entryAt nan kAcv vr ⌝ }
 {
     entry(&K_ACV, vr)
 }
 
+// What a negative DC voltage is multiplied by.
 pub fn dcv_negk(vr: u8) -> f32
     ensures { λ r. ⌜ r ≡ entryAt nan dcvNegk vr ⌝ }
 {
     entry(&DCV_NEGK, vr)
 }
 
+// The jump window of a V range's smoothing, in volts.
 pub fn acv_win(vr: u8) -> f32
     ensures { λ r. ⌜ r ≡ entryAt nan acvWin vr ⌝ }
 {
     entry(&ACV_WIN, vr)
 }
 
-// By calibration index, not by range.
+// The jump window of a current's smoothing, in A, mA or uA: by calibration index, not by range.
 pub fn aca_win(ci: u8) -> f32
     ensures { λ r. ⌜ r ≡ entryAt nan acaWin ci ⌝ }
 {

@@ -8,12 +8,12 @@ use Rattle.meter.proofs.frame.entry.Tie as tie
 measured-requires : tie.Need-measured-requires
 measured-requires c κs = search needs
 
-read-requires : tie.Need-read-requires
-read-requires c κs = search needs
+read-entry-requires : tie.Need-read-entry-requires
+read-entry-requires c κs = search needs
 
 returns : tie.Need-returns
 unfolding entry
-returns c = let m = simp (c .before .before .measured .ensures) at (c .before .if2 .taken) in c .read .ensures ∙ rw (c .before .before .before .if1 .taken, m)
+returns c = let m = simp (c .before .before .measured .ensures) at (c .before .if2 .taken) in c .read-entry .ensures ∙ rw (c .before .before .before .if1 .taken, m)
 
 returns-2 : tie.Need-returns-2
 unfolding entry
@@ -24,4 +24,4 @@ unfolding entry
 returns-3 c = rw (c .if1 .left)
 
 pub entry-spec : {M : Type 1} → statement M
-entry-spec = tie.close (tie.spec measured-requires read-requires returns returns-2 returns-3)
+entry-spec = tie.close (tie.spec measured-requires read-entry-requires returns returns-2 returns-3)

@@ -1,3 +1,4 @@
+-- `marked`, with no mark.
 use borrow.Author.Needs.{needs}
 use Rattle.orders.specs.Answer.{done}
 use Rattle.orders.proofs.answer.done.Statement.{statement}

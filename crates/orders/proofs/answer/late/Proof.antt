@@ -1,3 +1,4 @@
+-- The test is the definition's.
 use borrow.Author.Needs.{needs}
 use Rattle.orders.specs.Answer.{late}
 use Rattle.orders.proofs.answer.late.Statement.{statement}

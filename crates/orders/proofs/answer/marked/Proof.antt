@@ -1,3 +1,4 @@
+-- Field by field.
 use borrow.Author.Needs.{needs}
 use Rattle.orders.specs.Answer.{marked}
 use Rattle.orders.proofs.answer.marked.Statement.{statement}

@@ -1,3 +1,4 @@
+-- Field by field.
 use borrow.Author.Needs.{needs}
 use Rattle.orders.specs.Answer.{refusedWith}
 use Rattle.orders.proofs.answer.refused_with.Statement.{statement}

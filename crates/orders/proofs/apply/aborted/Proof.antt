@@ -1,3 +1,4 @@
+-- The job's end with its result.
 use borrow.Author.Needs.{needs}
 use Rattle.orders.specs.Apply.{aborted}
 use Rattle.orders.proofs.apply.aborted.Statement.{statement}

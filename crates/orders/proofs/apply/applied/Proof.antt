@@ -1,3 +1,4 @@
+-- The apply, and its parts put back.
 use borrow.Author.Needs.{needs}
 use Rattle.orders.specs.Apply.{applied}
 use Rattle.orders.proofs.apply.applied.Statement.{statement}

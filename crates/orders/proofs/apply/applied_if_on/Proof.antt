@@ -1,3 +1,4 @@
+-- By whether the meter is on.
 use borrow.Author.Needs.{needs}
 use Rattle.orders.specs.Apply.{appliedIfOn}
 use Rattle.orders.proofs.apply.applied_if_on.Statement.{statement}

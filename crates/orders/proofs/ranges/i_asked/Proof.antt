@@ -1,3 +1,4 @@
+-- One case for each thing asked.
 use borrow.Author.Needs.{needs}
 use Rattle.orders.specs.Ranges.{iAsked}
 use Rattle.orders.proofs.ranges.i_asked.Statement.{statement}

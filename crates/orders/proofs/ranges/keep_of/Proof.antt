@@ -1,3 +1,4 @@
+-- By the two tests, in their order.
 use borrow.Author.Tests.{eq-eqb, ne-eqb}
 use Rattle.orders.specs.Ranges.{keepOf}
 use Rattle.orders.proofs.ranges.keep_of.Statement.{statement}

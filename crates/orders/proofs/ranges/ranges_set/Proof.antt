@@ -1,3 +1,4 @@
+-- The callees; by whether the meter is on, and whether a range has changed.
 use borrow.Author.Tests.{not-true, not-false}
 use borrow.Author.Needs.{needs}
 use Rattle.orders.specs.Ranges.{rangesSet}

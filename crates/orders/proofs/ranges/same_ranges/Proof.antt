@@ -1,3 +1,4 @@
+-- By the voltage's range; the current's is the answer where that is the same.
 use borrow.Author.Tests.{eq-eqb, ne-eqb}
 use Rattle.orders.specs.Ranges.{sameRanges}
 use Rattle.orders.proofs.ranges.same_ranges.Statement.{statement}

@@ -1,3 +1,4 @@
+-- Late, or the job's end and then the order.
 use borrow.Author.Needs.{needs}
 use Rattle.orders.specs.Ranges.{setRanges}
 use Rattle.orders.proofs.ranges.set_ranges.Statement.{statement}

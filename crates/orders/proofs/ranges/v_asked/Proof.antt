@@ -1,3 +1,4 @@
+-- One case for each thing asked.
 use borrow.Author.Needs.{needs}
 use Rattle.orders.specs.Ranges.{vAsked}
 use Rattle.orders.proofs.ranges.v_asked.Statement.{statement}

@@ -1,3 +1,4 @@
+-- Field by field, and done.
 use borrow.Author.Needs.{needs}
 use Rattle.orders.specs.Starts.{energyReset}
 use Rattle.orders.proofs.starts.energy_reset.Statement.{statement}

@@ -1,3 +1,4 @@
+-- The tests of the definition, in its order.
 use borrow.Author.Needs.{needs}
 use Rattle.orders.specs.Starts.{phaseStart}
 use Rattle.orders.proofs.starts.phase_start.Statement.{statement}

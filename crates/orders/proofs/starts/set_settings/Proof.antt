@@ -1,5 +1,6 @@
+-- One field, and done.
 use borrow.Author.Needs.{needs}
-use Rattle.orders.specs.Starts.{settingsSet}
+use Rattle.orders.specs.Starts.{setSettings}
 use Rattle.orders.proofs.starts.set_settings.Statement.{statement}
 use Rattle.orders.proofs.starts.set_settings.Tie as tie
 
@@ -7,7 +8,7 @@ done-requires : tie.Need-done-requires
 done-requires c κs = search needs
 
 returns : tie.Need-returns
-unfolding settingsSet
+unfolding setSettings
 returns c = simp (c .done .ensures)
 
 pub set-settings-spec : {M : Type 1} → statement M

@@ -1,3 +1,4 @@
+-- The tests of the definition, in its order.
 use mathlib.Core.Path.{ap, _∙_}
 use Rattle.refusals.specs.declared.Refusal.the-variants.{Method}
 use Rattle.orders.specs.Answer.{refusedWith}

@@ -1,3 +1,4 @@
+-- The callees; by whether the coupling takes force.
 use borrow.Author.Needs.{needs}
 use Rattle.orders.specs.Switches.{couplingSet}
 use Rattle.orders.proofs.switches.coupling_set.Statement.{statement}

@@ -1,3 +1,4 @@
+-- By the first mark.
 use Rattle.orders.specs.Switches.{differ}
 use Rattle.orders.proofs.switches.differ.Statement.{statement}
 use Rattle.orders.proofs.switches.differ.Tie as tie

@@ -1,3 +1,4 @@
+-- Late, or the job's end and then the order.
 use borrow.Author.Needs.{needs}
 use Rattle.orders.specs.Switches.{method}
 use Rattle.orders.proofs.switches.method.Statement.{statement}

@@ -1,3 +1,4 @@
+-- One field, and the apply while on.
 use borrow.Author.Needs.{needs}
 use Rattle.orders.specs.Switches.{methodSet}
 use Rattle.orders.proofs.switches.method_set.Statement.{statement}

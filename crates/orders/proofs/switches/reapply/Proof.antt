@@ -1,3 +1,4 @@
+-- The tests of the definition, in its order.
 use borrow.Author.Needs.{needs}
 use borrow.Author.Tests.{eq-eqb, ne-eqb}
 use Rattle.orders.specs.Switches.{reapply}

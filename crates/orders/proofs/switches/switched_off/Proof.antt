@@ -1,3 +1,4 @@
+-- One field, and done.
 use borrow.Author.Needs.{needs}
 use Rattle.orders.specs.Switches.{switchedOff}
 use Rattle.orders.proofs.switches.switched_off.Statement.{statement}

@@ -1,3 +1,4 @@
+-- The mode's fields, and the apply.
 use borrow.Author.Needs.{needs}
 use Rattle.orders.specs.Switches.{switchedOn}
 use Rattle.orders.proofs.switches.switched_on.Statement.{statement}

@@ -1,3 +1,4 @@
+-- The tests of the definition, in its order.
 use borrow.Author.Tests.{not-true, not-false}
 use borrow.Author.Needs.{needs}
 use Rattle.orders.specs.Switches.{takesForce}

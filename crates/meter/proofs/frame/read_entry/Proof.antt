@@ -4,8 +4,8 @@ use Rattle.values.specs.Divided.{loadOf}
 use Rattle.meter.specs.Divided.{readBy, readEntry}
 use Rattle.meter.proofs.Entered.{read-full, read-done}
 use borrow.Author.Needs.{needs}
-use Rattle.meter.proofs.frame.read.Statement.{statement}
-use Rattle.meter.proofs.frame.read.Tie as tie
+use Rattle.meter.proofs.frame.read_entry.Statement.{statement}
+use Rattle.meter.proofs.frame.read_entry.Tie as tie
 
 load-of-requires : tie.Need-load-of-requires
 load-of-requires c κs = search needs
@@ -41,5 +41,5 @@ returns-2 c =
     simp (c .reading-vals .ensures, c .before .values-of .ensures, c .before .before .changing-in .ensures, l)
     (read-done b (loadOf b) (c .before .before .before .before .before .posted .result) (c .before .before .before .if1 .left) ∙ ap (readBy b (loadOf b)) a)
 
-pub read-spec : {M : Type 1} → statement M
-read-spec = tie.close (tie.spec load-of-requires alternating-requires posted-requires returns changing-in-requires values-of-requires reading-vals-requires returns-2)
+pub read-entry-spec : {M : Type 1} → statement M
+read-entry-spec = tie.close (tie.spec load-of-requires alternating-requires posted-requires returns changing-in-requires values-of-requires reading-vals-requires returns-2)
