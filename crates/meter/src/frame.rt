@@ -51,7 +51,7 @@ pub struct Measurement {
 }
 
 // What the values take of the ledger.
-fn changing_in(ledger: Ledger) -> Changing
+fn changing_of(ledger: Ledger) -> Changing
     ensures { λ r. ⌜ r ≡ changing ledger ⌝ }
 {
     let tally = ledger.tally;
@@ -81,7 +81,7 @@ fn read_entry(basis: Basis, before: Ledger, time: u64) -> Entered
             reading: Reading::NoReading,
         };
     }
-    let vals = values_of(basis, load, changing_in(ledger));
+    let vals = values_of(basis, load, changing_of(ledger));
     let readouts = reading_vals(vals);
     Entered {
         full: false,

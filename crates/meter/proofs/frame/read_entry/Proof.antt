@@ -23,8 +23,8 @@ returns c =
     let b = c .before .before .before .before .before .args .basis in
     read-full b (loadOf b) (c .before .before .posted .result) (c .if1 .taken) ∙ ap (readBy b (loadOf b)) a
 
-changing-in-requires : tie.Need-changing-in-requires
-changing-in-requires c κs = search needs
+changing-of-requires : tie.Need-changing-of-requires
+changing-of-requires c κs = search needs
 
 values-of-requires : tie.Need-values-of-requires
 values-of-requires c κs = search needs
@@ -38,8 +38,8 @@ returns-2 c =
     let l = c .before .before .before .before .before .before .before .load-of .ensures in
     let a = simp (c .before .before .before .before .before .before .alternating .ensures, l) at (c .before .before .before .before .before .posted .ensures) in
     let b = c .before .before .before .before .before .before .before .before .args .basis in
-    simp (c .reading-vals .ensures, c .before .values-of .ensures, c .before .before .changing-in .ensures, l)
+    simp (c .reading-vals .ensures, c .before .values-of .ensures, c .before .before .changing-of .ensures, l)
     (read-done b (loadOf b) (c .before .before .before .before .before .posted .result) (c .before .before .before .if1 .left) ∙ ap (readBy b (loadOf b)) a)
 
 pub read-entry-spec : {M : Type 1} → statement M
-read-entry-spec = tie.close (tie.spec load-of-requires alternating-requires posted-requires returns changing-in-requires values-of-requires reading-vals-requires returns-2)
+read-entry-spec = tie.close (tie.spec load-of-requires alternating-requires posted-requires returns changing-of-requires values-of-requires reading-vals-requires returns-2)
