@@ -29,7 +29,7 @@ use Rattle.jobs.specs.Frame.{jobFrame}
 use Rattle.jobs.specs.declared.whole.Polled.{Polled}
 use Rattle.jobs.specs.Bench.{placeIn}
 use Rattle.jobs.specs.Whole.{benchIn, jobPolled}
-use Rattle.jobs.proofs.Stated.{not-ready}
+use Rattle.jobs.proofs.Stated.{not-ready, frame-seen}
 use Rattle.orders.specs.declared.answer.Step.{Step}
 use Rattle.orders.specs.Answer.{late, refusedWith}
 use Rattle.orders.specs.Apply.{aborted}
@@ -47,7 +47,6 @@ use Rattle.book.proofs.Lists.{length-more}
 use Rattle.book.proofs.Relation.{Runs, Rel, few-frames}
 use Rattle.book.proofs.Frames.{ready-same, frame-good, frame-same}
 use Rattle.book.proofs.Every.{Keeps, no-job, none-refused, reached}
-use Rattle.book.proofs.Seen.{frame-marks}
 use Rattle.book.proofs.Counts.{zero-length, gain-length}
 use Rattle.book.proofs.InForce.{in-force}
 
@@ -122,7 +121,7 @@ module _ (w : Calibration) (m : Pw) (b : Book) (h : Keeps w m b) where
 
       seen-is : s .answer .refusal ≡ refusal.Done → s .pw .cycle .seen ≡ m .cycle .seen
       unfolding jobPolled benchIn
-      seen-is d = ap (λ (x : Step). x .pw .cycle .seen) (frame-is d) ∙ frame-marks t (m .calibration) flags f (benchIn m)
+      seen-is d = ap (λ (x : Step). x .pw .cycle .seen) (frame-is d) ∙ frame-seen t (m .calibration) flags f (benchIn m)
 
       quiet-frame : s .answer .refusal ≡ refusal.Done → Quiet m (s .pw)
       quiet-frame d = let l = in-job-leaves m t flags bytes busy in (l .0, l .4, l .1, seen-is d, l .2)

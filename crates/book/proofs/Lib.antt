@@ -4,7 +4,6 @@ pub mod Serve
 pub mod Gains
 pub mod Frames
 pub mod Every
-pub mod Seen
 pub mod Counts
 pub mod InForce
 pub mod Demand3

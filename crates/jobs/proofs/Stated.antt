@@ -11,7 +11,7 @@ use lib.IntN.{ℤ}
 use lib.ListN.{length}
 use lib.Ieee.{Float}
 use Rattle.numbers.specs.Binary32.{_+f_, zeroF}
-use Rattle.numbers.proofs.Cases.{either}
+use Rattle.numbers.proofs.Cases.{either, by-test}
 use Rattle.codes.specs.declared.Codes.{Codes}
 use Rattle.tables.specs.Constants.{jobN, jrOk, jrSignal, jrSmall, jrBig, jrUnstable, jrRange}
 use Rattle.tables.specs.declared.calibration.Calibration.{Calibration}
@@ -97,9 +97,9 @@ not-ready m now flags f e = rw (e)
 
 -- ---- a frame in a job: the job goes on or has ended
 
--- what is alike in both: the ranges and marks noted at the start, with the kind and the V range, and the count of ready frames (below, t has its frame counted already)
+-- what is alike in both: the ranges and marks noted at the start, with the kind and the V range, the count of ready frames (below, t has its frame counted already), and which smoothed values count
 abbrev pub Noted : Bench → Bench → Type 0
-Noted t b = (b .job .«job_save» ≡ t .job .«job_save») × (b .job .«job_last» ≡ t .job .«job_last») × (b .job .«job_vr» ≡ t .job .«job_vr») × (b .job .used ≡ t .job .used)
+Noted t b = (b .job .«job_save» ≡ t .job .«job_save») × (b .job .«job_last» ≡ t .job .«job_last») × (b .job .«job_vr» ≡ t .job .«job_vr») × (b .job .used ≡ t .job .used) × (b .cycle .seen ≡ t .cycle .seen)
 
 -- it goes on: its number and result, the ranges, marks, kind and V range noted at its start, zeros and gains, and the mode are as they were
 abbrev pub GoesOn : Bench → Bench → Type 0
@@ -174,7 +174,19 @@ frame-goes now c flags f t e =
     let sig = signal p (oldOf (zerosIn (t .corrections)) (t .job .«job_step»)) f in
     let r = readingOf p c (t .ranges .vr) (zerosIn (t .corrections)) f in
     subst (λ (u : Bool). Goes (oneUsed t) (cond u (servedBy now sig r (oneUsed t)) (unmarked t))) (sym e)
-    (served-goes (oneUsed t) now sig r (oneUsed t) (refl, refl, (refl, refl, refl, refl), refl, refl))
+    (served-goes (oneUsed t) now sig r (oneUsed t) (refl, refl, (refl, refl, refl, refl, refl), refl, refl))
+
+-- ready or not, it leaves which smoothed values count
+pub frame-seen : (now : ℕ) (c : Calibration) (flags : ℕ) (f : Codes) (t : Bench) → jobFrame now c flags f t .bench .cycle .seen ≡ t .cycle .seen
+unfolding jobFrame
+frame-seen now c flags f t = by-test (λ u. cond u (served now c f (oneUsed t)) (unmarked t) .bench .cycle .seen ≡ t .cycle .seen) (ready (placeIn (t .job)) flags) ready-seen (λ e. refl)
+  where
+    noted-in : (b : Bench) → GoesOn (oneUsed t) b ⊎ HasEnded (oneUsed t) b → b .cycle .seen ≡ t .cycle .seen
+    noted-in b (inl g) = g .2 .4
+    noted-in b (inr g) = g .2 .4
+
+    ready-seen : ready (placeIn (t .job)) flags ≡ true → served now c f (oneUsed t) .bench .cycle .seen ≡ t .cycle .seen
+    ready-seen e = subst (λ (u : Bool). cond u (served now c f (oneUsed t)) (unmarked t) .bench .cycle .seen ≡ t .cycle .seen) e (noted-in (jobFrame now c flags f t .bench) (frame-goes now c flags f t e))
 
 -- an order that ends a job right after its start leaves ranges and marks, zeros and gains as the start found them
 pub start-then-end : (now res : ℕ) (k : Kind) (b : Bench) → let e = endedIfAny res (begun now k b .bench) in (e .ranges ≡ b .ranges) × (e .corrections ≡ b .corrections)
