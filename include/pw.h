@@ -372,7 +372,7 @@ struct pw_clock {
  * has. */
 struct pw_settings {
     bool comp;       /* the meter's own drop is taken off, except in the
-                      * alternating method; no */
+                      * alternating method without DC coupling; no */
     float r_path[3]; /* ohms of its path for A, mA, uA; 0.01, 0.5, 47.5 */
     float i_cont;    /* the limit of the continuous current; 6.0 A */
     uint16_t t_lim;  /* seconds allowed above it, 0 for no limit; 30 */
@@ -542,8 +542,8 @@ struct pw_readouts {
 };
 
 /* Power, apparent and reactive power, power factor, volts and amperes: at the
- * load where settings.comp and not in the alternating method, else as measured.
- * In W, VA, var, 1, V and A. */
+ * load where settings.comp, but not in the alternating method without DC
+ * coupling; else as measured. In W, VA, var, 1, V and A. */
 struct pw_figures {
     float p;
     float s;
@@ -770,8 +770,8 @@ struct pw_step pw_run(struct pw_meter meter, bool run);
  *
  * Takes:   any settings: every float and every number; `comp` must be 0 or 1,
  *          as C's is. t_lim 0 is no limit, and a main readout above PW_MAIN_VAH
- *          is the power. Nothing is tested, so a host looks at what its user
- *          has typed itself.
+ *          is the power, and then pw_energy_val is the power too. Nothing is
+ *          tested: the host itself looks at what its user has typed.
  * Returns: done, no mark; never refused: on or off, in a job too. It carries no
  *          time.
  * Leaves:  `settings` and nothing else: energies, ranges and a running job stay
@@ -785,13 +785,14 @@ struct pw_step pw_run(struct pw_meter meter, bool run);
  *
  * A NaN in r_path counts only in the current ranges of its unit. There burden_v
  * is a NaN; and where the drop is taken off the power is a NaN too, in AC+DC
- * coupling with v_dc, p_dc and p_ac of `split`, while volts, and VA, var and power factor where
- * there are any, are 0.0: no energy is counted at that. A resistance that is
- * infinite or very large makes figures as wrong: NaNs and infinities, at which
- * nothing is counted, or powers that soon fill an energy (PW_FULL). With a NaN
- * in i_cont no current is above the limit and none below it: a count that has
- * begun goes on, and none begins. With 0.0 one that has begun never ends, and
- * below 0.0 every current is above the limit. */
+ * coupling with v_dc, p_dc and p_ac of `split` (v_ac is 0.0), while volts, and
+ * VA, var and power factor where there are any, are 0.0: no energy is counted
+ * at that, but the time is. A resistance that is infinite or very large makes
+ * figures as wrong: NaNs and infinities, at which nothing is counted, or powers
+ * that soon fill an energy (PW_FULL). With a NaN in i_cont no current is above
+ * the limit and none below it: a count that has begun goes on, and none begins.
+ * With 0.0 one that has begun never ends, and below 0.0 every current is above
+ * the limit. */
 struct pw_step pw_set_settings(struct pw_meter meter,
                                struct pw_settings settings);
 

@@ -124,7 +124,7 @@ module _ (w : Calibration) (m : Pw) (b : Book) (h : Keeps w m b) where
       seen-is d = ap (λ (x : Step). x .pw .cycle .seen) (frame-is d) ∙ frame-seen t (m .calibration) flags f (benchIn m)
 
       quiet-frame : s .answer .refusal ≡ refusal.Done → Quiet m (s .pw)
-      quiet-frame d = let l = in-job-leaves m t flags bytes busy in (l .0, l .4, l .1, seen-is d, l .2)
+      quiet-frame d = let l = in-job-leaves m t flags bytes busy in (l .0, l .4, l .1, seen-is d, l .2, l .5)
 
       only-polled : s .answer .refusal ≡ refusal.Done → ready (placeFor set k fs) flags ≡ false → s .pw ≡ withPoll m t
       only-polled d q = ap (λ (x : Step). x .pw) (frame-is d) ∙ ap (λ (x : Polled). x .pw) (not-ready m t flags f (not-ready-in q))

@@ -69,6 +69,12 @@ module _ (w : Calibration) (m : Pw) (b : Book) where
     every-case (SetSettings s) earns = other-case (asked m (SetSettings s) .refused) (b .job)
     every-case (Frame t flags bytes) earns = frame-case t flags bytes (earns t flags bytes refl)
 
+  -- an accepted frame that is ready in a job is entered so
+  entered-so : (c : Call) (t flags : ℕ) (bytes : List ℕ) (k : Kind) (r : Ranges) (fs : List Codes) (o : Outcome) → c ≡ Frame t flags bytes → refuses (step m (Frame t flags bytes) .answer .refusal) ≡ false
+      → b .job ≡ serving k r fs → ready (placeFor (settingOf w r (b .zeros)) k fs) flags ≡ true → outcome k (settingOf w r (b .zeros)) fs (codesOf bytes) ≡ o
+      → entry w (asked m c) c b ≡ entered k r (fs ++ (codesOf bytes ∷ [])) o (b .zeros) (b .gain)
+  entered-so c t flags bytes k r fs o is a e s i = rw is (rw (a, e, s, i))
+
   -- the zeros
   abbrev ZerosBy : Call → Book → Type 0
   ZerosBy c u = (u .zeros ≡ b .zeros) ⊎ EarnsZeros w (u .zeros) m b c
@@ -83,7 +89,7 @@ module _ (w : Calibration) (m : Pw) (b : Book) where
       by t flags bytes is k r fs (struck res) a e s i = inl refl
       by t flags bytes is k r fs (gained x) a e s i = inl refl
       by t flags bytes is k r fs (zeroed z) a e s i =
-          inr (EarnsZeros.earns r (record { time = t; flags = flags; bytes = bytes; kind = k; used = fs; is = is; accepted = rw is a; runs = e; serves = s; comes = i }))
+          inr (EarnsZeros.earns r (record { time = t; flags = flags; bytes = bytes; kind = k; used = fs; is = is; accepted = rw is a; runs = e; serves = s; comes = i; leaves = entered-so c t flags bytes k r fs _ is a e s i }))
 
   -- the gain of range n
   abbrev GainBy : ℕ → Call → Book → Type 0
@@ -102,7 +108,7 @@ module _ (w : Calibration) (m : Pw) (b : Book) where
         where
           in-range : (u : Bool) → eqb n (min (r .vr) 3) ≡ u → let g = cond u (earned x) (b .gain n) in (g ≡ b .gain n) ⊎ EarnsGain w n g m b c
           in-range true q =
-              inr (EarnsGain.earns r x (record { time = t; flags = flags; bytes = bytes; kind = k; used = fs; is = is; accepted = rw is a; runs = e; serves = s; comes = i }) (eqb-true _ _ q) refl)
+              inr (EarnsGain.earns r x (record { time = t; flags = flags; bytes = bytes; kind = k; used = fs; is = is; accepted = rw is a; runs = e; serves = s; comes = i; leaves = entered-so c t flags bytes k r fs _ is a e s i }) (eqb-true _ _ q) refl)
           in-range false q = inl refl
 
 -- ---- every list

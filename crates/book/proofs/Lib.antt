@@ -7,6 +7,6 @@ pub mod Every
 pub mod Counts
 pub mod InForce
 pub mod Demand3
+pub mod Earned
 pub mod Program
 pub mod Sample
-pub mod Earned

@@ -19,6 +19,7 @@ use Rattle.book.specs.Demand3.{Agrees, fed}
 use Rattle.book.specs.Program.{Contracts, ran, Program}
 use Rattle.book.proofs.Every.{none-refused}
 use Rattle.book.proofs.Demand3.{demand3}
+use Rattle.book.proofs.Earned.{all-earned}
 
 -- call by call
 ran-is : (f : Pw → Call → HostStep) → Contracts f → (m : Pw) (cs : List Call) → ran f m cs ≡ after m cs
@@ -34,4 +35,4 @@ unfolding hostMade
 program f h d words valid e cs =
     let m = make d words valid .pw in
     let same = ran-is f h m cs in
-    (same, λ c. h (ran f m cs) c ∙ ap (λ (n : Pw). hostStep (step n c)) same, subst (λ (n : Pw). Agrees (fed words valid) n (books (fed words valid) m cs blank)) (sym same) (demand3 d words valid (done-is (make d words valid .refusal) e) cs))
+    (same, λ c. h (ran f m cs) c ∙ ap (λ (n : Pw). hostStep (step n c)) same, subst (λ (n : Pw). Agrees (fed words valid) n (books (fed words valid) m cs blank)) (sym same) (demand3 d words valid (done-is (make d words valid .refusal) e) cs), all-earned (fed words valid) m cs)

@@ -1,5 +1,5 @@
 -- The book of document 01: "It holds the zeros, a gain for each range and a running job, at first none of these." A running job is its kind, the ranges and automatic marks found, and the ready frames that it has used. Which step a frame serves, what is dropped, readings, means, ratios and outcomes are worked out from that list.
--- The formulas of one reading, one mean and one verdict are the source's as crates/steps renders them, and so is what a frame's bytes say; the steps and their order, the drops, the list, and what ends a job and how are written out here.
+-- The formulas of one reading, one mean and one verdict, the old zero of a step and the order of steps that a kind has are the source's as crates/steps renders them, and what a frame's bytes say is crates/codes's; the steps themselves, the drops, the list, and what ends a job and how are written out here.
 use mathlib.Core.Bool.{Bool, cond}
 use mathlib.Core.List.{List, [], _∷_, _++_}
 use Prim.Native.Nat.{ℕ, zero, suc, _+_, _%_, min}
@@ -98,7 +98,7 @@ meanX c l fs s = meanOf (sumOf 3 (λ j. readingAt c l fs s j .x))
 unfoldable pub meanY : Setting → Layout → List Codes → ℕ → Float
 meanY c l fs s = meanOf (sumOf 3 (λ j. readingAt c l fs s j .y))
 
--- "step 0 fixes DC or AC", by its means; that step is the same in both
+-- "step 0 fixes DC or AC", by its means. Before they are there it is of missing frames, and makes no difference: step 0 is the same in both, and a zero job has one order
 abbrev pub dcOf : Setting → List Codes → Bool
 dcOf c fs = isDc (meanX c dcSteps fs 0) (meanY c dcSteps fs 0)
 

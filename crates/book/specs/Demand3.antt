@@ -63,11 +63,11 @@ NoZeros c = (c .zx ≡ replicate 6 (pos 0)) × (c .zd ≡ replicate 6 (pos 0)) �
 
 -- ---- a job's end
 
--- "At each job's end in the list, ranges and marks become those noted, and the ending call goes on from there". `aborted m` is m with its job ended and nothing else done: the order does to m what it does to that meter, in which no job runs
+-- "At each job's end in the list, ranges and marks become those noted, and the ending call goes on from there". `aborted m` is m after `pw_job_end` and nothing else: the order does to m what it does to that meter, in which no job runs
 abbrev pub GoesOn : Call → Pw → Ranges → Type 0
 GoesOn c m r = (aborted m .ranges ≡ r) × (aborted m .job .job ≡ 0) × (aborted m .job .«job_res» ≡ jrAbort) × (step m c ≡ step (aborted m) c)
 
--- by an order, or by a frame, which does nothing more; no other call ends a job
+-- by an order, which goes on, or by a frame, of which the ranges and marks are said here and the rest in `quiet`, `result`, `zeros` and `gains`; no other call ends a job
 abbrev pub Ended : Call → Pw → Ranges → Type 0
 Ended (On t) m r = GoesOn (On t) m r
 Ended (Off t) m r = GoesOn (Off t) m r
@@ -85,9 +85,9 @@ Ended (Frame t flags bytes) m r = step m (Frame t flags bytes) .pw .ranges ≡ r
 
 -- ---- a frame in a job
 
--- "leaves energies and counted times as before, and smoothed values too": energies with their counted time, the last accounted time, the smoothed values and which of them count (`seen`), and the powers at which the next interval counts. Document 01 goes on "save what the source resets in an apply or a job's end": no frame in a job applies, and a job's end resets none of these
+-- "leaves energies and counted times as before, and smoothed values too": energies with their counted time, the last accounted time, the smoothed values and which of them count (`seen`), the powers at which the next interval counts, and since when the current is above its limit. Document 01 goes on "save what the source resets in an apply or a job's end": no frame in a job applies, and a job's end resets none of these
 abbrev pub Quiet : Pw → Pw → Type 0
-Quiet m n = (n .tally ≡ m .tally) × (n .clock .«t_last» ≡ m .clock .«t_last») × (n .parts ≡ m .parts) × (n .cycle .seen ≡ m .cycle .seen) × (n .powers ≡ m .powers)
+Quiet m n = (n .tally ≡ m .tally) × (n .clock .«t_last» ≡ m .clock .«t_last») × (n .parts ≡ m .parts) × (n .cycle .seen ≡ m .cycle .seen) × (n .powers ≡ m .powers) × (n .«over_t0» ≡ m .«over_t0»)
 
 -- ---- the claim
 
