@@ -4,7 +4,7 @@ use mathlib.Core.Bool.{Bool, true, false, cond}
 use mathlib.Core.List.{List, [], _∷_, _++_}
 use Prim.Native.Nat.{ℕ, suc, _%_, _≤_}
 use native.Mathlib.Omega.{arith}
-use borrow.Author.Tests.{ltb-true, ltb-false}
+use borrow.Author.Tests.{ltb-false}
 use lib.Dec.{ltb, eqb}
 use lib.Ieee.{Float}
 use lib.ListN.{length}
@@ -17,7 +17,7 @@ use Rattle.steps.specs.declared.verdict.RawVerdict.the-variants.{Small, Big, Fa
 use Rattle.steps.specs.Place.{zeroSteps, layoutOf}
 use Rattle.steps.specs.Reading.{Zeros}
 use Rattle.jobs.specs.declared.bench.Bench.{Bench}
-use Rattle.book.specs.Book.{measures, drops, begins, first, Setting, dcOf, Outcome, going, struck, zeroed, gained, thirteen, rawOut, gainOut, verdictOf, ratioOf, finished, signalAt, outcome}
+use Rattle.book.specs.Book.{measures, drops, begins, first, Setting, dcOf, going, struck, zeroed, gained, thirteen, rawOut, gainOut, verdictOf, ratioOf, finished, signalAt, outcome}
 use Rattle.book.proofs.Lists.{begins-mono, dc-old}
 use Rattle.book.proofs.Relation.{layIn, Serving, three-steps, after-begin, before-next, outcome-is}
 use Rattle.book.proofs.Serve.{four}

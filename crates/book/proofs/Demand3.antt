@@ -1,15 +1,13 @@
 -- Demand 3, proved.
 use mathlib.Core.Path.{_≡_, refl, ap, sym, _∙_, subst}
-use mathlib.Core.Bool.{Bool, true, false, not, _||_, cond, true≢false}
+use mathlib.Core.Bool.{Bool, true, false, cond}
 use mathlib.Core.List.{List, [], _∷_, _++_}
 use Prim.Native.Nat.{ℕ, suc}
 use native.Mathlib.Omega.{arith}
-use borrow.Author.Tests.{eqb-true, eq-eqb, ne-eqb}
+use borrow.Author.Tests.{eq-eqb, ne-eqb}
 use lib.Dec.{eqb}
 use lib.Ieee.{Float}
 use lib.ListN.{length}
-use Rattle.numbers.proofs.Cases.{either}
-use Rattle.refusals.specs.declared.Refusal.{Refusal}
 use Rattle.refusals.specs.declared.Refusal.the-variants as refusal
 use Rattle.codes.specs.declared.Codes.{Codes}
 use Rattle.codes.specs.Frame.{codesOf}
@@ -17,13 +15,11 @@ use Rattle.tables.specs.Bounds.{within}
 use Rattle.tables.specs.Constants.{jrAbort}
 use Rattle.tables.specs.Gain.{gainLeast, gainMost, plausible, vGain}
 use Rattle.tables.specs.declared.calibration.Calibration.{Calibration}
-use Rattle.tables.specs.declared.description.Description.{Description}
 use Rattle.state.specs.declared.Pw.{Pw}
 use Rattle.state.specs.declared.Ranges.{Ranges}
 use Rattle.steps.specs.declared.place.Kind.{Kind}
 use Rattle.steps.specs.declared.place.Kind.the-variants.{Zero, Gain}
 use Rattle.steps.specs.Place.{ready}
-use Rattle.steps.specs.Reading.{Zeros}
 use Rattle.jobs.specs.declared.bench.Bench.{Bench}
 use Rattle.jobs.specs.Frame.{jobFrame}
 use Rattle.jobs.specs.declared.whole.Polled.{Polled}
@@ -35,13 +31,12 @@ use Rattle.orders.specs.Answer.{late, refusedWith}
 use Rattle.orders.specs.Apply.{aborted}
 use Rattle.orders.specs.Switches as switches
 use Rattle.orders.specs.Ranges.{rangesSet, setRanges}
-use Rattle.orders.specs.Starts.{startJob}
 use Rattle.orders.proofs.Stated.{aborted-none, aborted-running, aborted-idle}
 use Rattle.meter.specs.Making.{refuses, make}
 use Rattle.meter.specs.Frame.{withPoll, polledStep}
 use Rattle.meter.specs.Calls.{step, after, Call, On, Off, Method, SetRanges, Coupling, ZeroJob, GainJob, PhaseStart, EnergyReset, Run, Reapply, SetSettings, Frame}
 use Rattle.meter.proofs.Stated.{in-job, in-job-leaves, outside-counts-none}
-use Rattle.book.specs.Book.{RangeGain, earned, Running, idle, serving, Book, book, Setting, placeFor, Outcome, going, struck, zeroed, gained, outcome, entered, framed, started, strikes, note, asked, entry, books, blank, settingOf}
+use Rattle.book.specs.Book.{earned, Running, idle, serving, Book, book, Setting, placeFor, Outcome, going, struck, zeroed, gained, outcome, entered, framed, started, strikes, asked, entry, books, blank, settingOf}
 use Rattle.book.specs.Demand3.{runs, resultOf, Ended, Quiet, Agrees, fed, Demand3}
 use Rattle.book.proofs.Lists.{length-more}
 use Rattle.book.proofs.Relation.{Runs, Rel, few-frames}

@@ -6,7 +6,6 @@ use mathlib.Core.Logic.{_⊎_, inl, inr}
 use Prim.Native.Nat.{ℕ, min}
 use borrow.Author.Tests.{eqb-true}
 use lib.Dec.{eqb}
-use lib.Ieee.{Float}
 use Rattle.codes.specs.declared.Codes.{Codes}
 use Rattle.codes.specs.Frame.{codesOf}
 use Rattle.tables.specs.declared.calibration.Calibration.{Calibration}
@@ -18,8 +17,8 @@ use Rattle.steps.specs.Place.{ready}
 use Rattle.steps.specs.Reading.{Zeros}
 use Rattle.meter.specs.Making.{refuses}
 use Rattle.meter.specs.Calls.{step, Call, On, Off, Method, SetRanges, Coupling, ZeroJob, GainJob, PhaseStart, EnergyReset, Run, Reapply, SetSettings, Frame}
-use Rattle.book.specs.Book.{Outcome, going, struck, zeroed, gained, outcome, RangeGain, earned, Running, idle, serving, Book, book, entered, framed, started, strikes, note, asked, entry, books, blank, settingOf, placeFor}
-use Rattle.book.specs.Earned.{Comes, EarnsZeros, EarnsGain, Sometime, Earned}
+use Rattle.book.specs.Book.{Outcome, going, struck, zeroed, gained, outcome, RangeGain, earned, Running, idle, serving, Book, book, entered, framed, asked, entry, books, blank, settingOf, placeFor}
+use Rattle.book.specs.Earned.{EarnsZeros, EarnsGain, Sometime, Earned}
 
 -- ---- one call
 

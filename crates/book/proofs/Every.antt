@@ -12,7 +12,6 @@ use Rattle.numbers.specs.Binary32.{zeroF}
 use Rattle.numbers.proofs.Cases.{either, by-test}
 use Rattle.refusals.specs.declared.Refusal.{Refusal}
 use Rattle.refusals.specs.declared.Refusal.the-variants as refusal
-use Rattle.codes.specs.declared.Codes.{Codes}
 use Rattle.codes.specs.Frame.{codesOf}
 use Rattle.tables.specs.declared.calibration.Calibration.{Calibration}
 use Rattle.tables.specs.declared.description.Description.{Description}
@@ -47,7 +46,7 @@ use Rattle.meter.proofs.Stated.{outside-leaves, in-job, made-with, sixInBounds,
 use Rattle.meter.proofs.Table.{refused-as, leaves}
 use Rattle.book.specs.Book.{Running, idle, serving, Book, book, framed, started, strikes, asked, entry, books, blank, settingOf}
 use Rattle.book.specs.Demand3.{NoZeros, fed}
-use Rattle.book.proofs.Relation.{Lengths, Room, Results, Serving, Runs, Rel}
+use Rattle.book.proofs.Relation.{Lengths, Results, Runs, Rel}
 use Rattle.book.proofs.Serve.{step-as, step-serves}
 use Rattle.book.proofs.Frames.{frame-keeps}
 

@@ -27,7 +27,7 @@ use Rattle.jobs.specs.Bench.{kindIn, placeIn}
 use Rattle.jobs.specs.Step.{stepDone}
 use Rattle.jobs.specs.Frame.{summed, counted, dropped, servedBy, oneUsed, served, jobFrame}
 use Rattle.jobs.proofs.Counts.{one-more}
-use Rattle.book.specs.Book.{measures, begins, first, sumOf, Setting, readingAt, meanX, meanY, placeFor, Outcome, going, struck, zeroAt, finished, signalAt, outcomeBy, outcome, serving, Book, book, settingOf, framed}
+use Rattle.book.specs.Book.{begins, first, sumOf, Setting, readingAt, meanX, meanY, placeFor, Outcome, going, zeroAt, finished, signalAt, outcomeBy, outcome, serving, Book, book, settingOf, framed}
 use Rattle.book.proofs.Lists.{both, ltb-same, sum-same, length-more, reading-old, reading-new}
 use Rattle.book.proofs.Relation.{Results, layIn, Serving, Rel, Good, kind-is, at-most-52, after-begin, few-frames, spot-place, place-in, outcome-is}
 use Rattle.book.proofs.Serve.{results-old, Full, struck-keeps, zero-done-keeps}

@@ -2,7 +2,7 @@
 use mathlib.Core.Path.{_≡_, refl, ap, sym, _∙_, subst}
 use mathlib.Core.Bool.{Bool, true, false, cond}
 use mathlib.Core.List.{List}
-use Prim.Native.Nat.{ℕ, suc, _/_, _%_, _<_, _≤_, min}
+use Prim.Native.Nat.{ℕ, suc, _%_, _<_, _≤_, min}
 use native.Mathlib.Omega.{arith}
 use borrow.Author.Tests.{eqb-true, eqb-false, ltb-true, ltb-false}
 use lib.Dec.{eqb, ltb}
@@ -22,13 +22,13 @@ use Rattle.steps.specs.declared.verdict.GainVerdict.{GainVerdict}
 use Rattle.steps.specs.declared.verdict.GainVerdict.the-variants.{Unstable, Outside, Good as Found}
 use Rattle.steps.specs.Place.{dcSteps, layoutOf}
 use Rattle.steps.specs.Reading.{zerosIn}
-use Rattle.steps.specs.Verdict.{isDc, part, rawVerdict, gainVerdict}
+use Rattle.steps.specs.Verdict.{isDc, part, rawVerdict}
 use Rattle.steps.proofs.Stated.{good-plausible}
 use Rattle.jobs.specs.declared.bench.Bench.{Bench}
 use Rattle.jobs.specs.declared.bench.Served.{Served}
 use Rattle.jobs.specs.Bench.{ended}
 use Rattle.jobs.specs.Step.{byRaw, rawNoted, rawDone, gainStored, byGain, refNoted, verdictIn, judged, refDone, gainDone}
-use Rattle.book.specs.Book.{drops, begins, lastOf, Setting, meanX, meanY, dcOf, going, struck, gained, rawOut, gainOut, rawAt, refAt, verdictOf, ratioOf, finished, RangeGain, earned, Book, settingOf}
+use Rattle.book.specs.Book.{drops, Setting, meanX, meanY, dcOf, going, struck, gained, rawOut, gainOut, rawAt, refAt, verdictOf, ratioOf, finished, RangeGain, earned, Book, settingOf}
 use Rattle.book.specs.Demand3.{stored}
 use Rattle.book.proofs.Lists.{both, Same, same}
 use Rattle.book.proofs.Relation.{Room, GainParts, layIn, Good, three-steps}

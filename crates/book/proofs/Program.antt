@@ -1,16 +1,12 @@
 -- The corollary over the contracts of the C interface: what holds of the definitions' meter holds of the program's.
 use mathlib.Core.Path.{_≡_, refl, ap, sym, _∙_, subst}
-use mathlib.Core.Bool.{Bool}
 use mathlib.Core.List.{List, [], _∷_}
-use Prim.Native.Nat.{ℕ}
-use native.Mathlib.Omega.{arith}
 use borrow.Author.Tests.{eq-eqb}
 use Rattle.refusals.specs.declared.Refusal.{Refusal}
 use Rattle.refusals.specs.declared.Refusal.the-variants as refusal
 use Rattle.refusals.specs.Number.{refusalNumber}
-use Rattle.tables.specs.declared.description.Description.{Description}
 use Rattle.state.specs.declared.Pw.{Pw}
-use Rattle.meter.specs.Making.{make, refuses}
+use Rattle.meter.specs.Making.{make}
 use Rattle.meter.specs.Calls.{step, after, Call}
 use Rattle.host.specs.declared.stepped.HostStep.{HostStep}
 use Rattle.host.specs.Stepped.{hostStep, hostMade}

@@ -1,9 +1,8 @@
 -- Lists of calls computed in the book, from a meter just made: it is no empty claim that a job ends well.
 use mathlib.Core.Path.{_≡_, refl}
-use mathlib.Core.Bool.{false}
 use mathlib.Core.List.{List, [], _∷_, _++_}
 use Prim.Native.Nat.{ℕ, zero, suc, _/_}
-use lib.IntN.{ℤ, pos, negsuc}
+use lib.IntN.{pos, negsuc}
 use lib.ListN.{replicate}
 use lib.Ieee.{binary32, add, sum, sub, neg, mul, div, lt, le, eq, ofBits, ofInt, toSigned, round}
 use Rattle.numbers.specs.Binary32.{isFinite, absOf}
@@ -16,7 +15,6 @@ use Rattle.tables.specs.Constants.{vLim, kv}
 use Rattle.tables.specs.Decided.{kAcv, dcvNegk}
 use Rattle.tables.specs.Gain.{plausible}
 use Rattle.tables.specs.Calibration.{noCalibration, factor, offset, cal}
-use Rattle.state.specs.declared.Pw.{Pw}
 use Rattle.state.specs.Counting.{deadline, countUp}
 use Rattle.state.specs.Fresh.{newPw}
 use Rattle.takes.specs.Scales.{codeLess, rmsRoot}

@@ -7,18 +7,16 @@ use native.Mathlib.Omega.{arith}
 use borrow.Author.Tests.{eqb-true, eqb-false, ltb-true, ltb-false}
 use lib.Dec.{eqb, ltb}
 use lib.IntN.{ℤ, pos}
-use lib.Ieee.{Float, nan}
+use lib.Ieee.{Float}
 use lib.ListN.{length, getD, set, length-set}
 use lib.Seq.{getD-set-same, getD-set-other}
 use Rattle.codes.specs.declared.Codes.{Codes}
 use Rattle.tables.specs.Constants.{jrRun, jrOk}
 use Rattle.tables.specs.declared.calibration.Calibration.{Calibration}
 use Rattle.state.specs.declared.Ranges.{Ranges}
-use Rattle.state.specs.Counting.{countUp}
 use Rattle.state.specs.Fresh.{noTime}
 use Rattle.steps.specs.declared.place.Kind.{Kind}
 use Rattle.steps.specs.declared.place.Kind.the-variants.{Zero, Gain}
-use Rattle.steps.specs.declared.place.Place.{Place}
 use Rattle.steps.specs.Place.{zeroSteps, kindNumber, layoutOf, placeOf, dropsOf, statOf, stepRanges}
 use Rattle.steps.specs.Reading.{Zeros, none, zerosIn}
 use Rattle.steps.specs.Verdict.{zeroMean, part}
@@ -30,7 +28,7 @@ use Rattle.jobs.proofs.Counts.{one-more}
 use Rattle.book.specs.Book.{measures, drops, begins, lastOf, Setting, meanX, meanY, Outcome, going, struck, zeroed, tab, zeroAt, thirteen, rawAt, refAt, finished, RangeGain, idle, Book, book, entered, settingOf}
 use Rattle.book.specs.Demand3.{NoZeros, resultOf}
 use Rattle.book.proofs.Lists.{begins-mono, mean-x-old, mean-y-old, dc-old, tab-ext}
-use Rattle.book.proofs.Relation.{Room, ZeroParts, Results, layIn, Serving, Gains, Bounded, Rel, Good, kind-is, last-low, step-vr, meter-place, meter-drops}
+use Rattle.book.proofs.Relation.{Room, ZeroParts, Results, layIn, Serving, Gains, Bounded, Good, kind-is, last-low, step-vr, meter-place, meter-drops}
 
 -- ---- what stays with one more frame
 
