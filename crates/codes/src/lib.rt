@@ -1,4 +1,6 @@
 // Module 1 of document 01, codes: a frame's three converter codes, and its flags.
+#![tactic(auto)]
+
 ghost use Rattle.std.specs.Prelude.{◌≡◌, ◌+◌, ◌≤◌, ◌<◌, length};
 ghost use Rattle.codes.specs.Frame.{little_endian, twos_complement, decoded};
 ghost use Rattle.codes.specs.Flags.{holds_ad1, holds_rms_lpf};
@@ -14,7 +16,7 @@ const INTF_LPF: u8 = 8;
 const INTF_RMS: u8 = 16;
 
 // The converter codes of one frame.
-#[derive(Drop)]
+#[derive(Clone, Copy)]
 pub struct Codes {
     pub ad1: i32,
     pub lpf: i32,
@@ -22,7 +24,7 @@ pub struct Codes {
 }
 
 // What decoding answers: the codes, or refusal 4.
-#[derive(Drop)]
+#[derive(Clone, Copy)]
 pub enum Decoded {
     Taken(Codes),
     Refused,

@@ -1,6 +1,8 @@
 // Module 1 of document 01, numbers: what the source takes from Rust's f32 and from dmm.rs, worked
 // out from bits. Every public function is total, and its contract is one equation with a definition
 // of specs/ or of the logic's IEEE 754 (lib.Ieee), where one type of values serves both formats.
+#![tactic(auto)]
+
 ghost use Rattle.std.specs.Prelude.{◌≡◌, ◌^◌, ◌<◌, ◌≤◌, pos, from_bits};
 ghost use Rattle.std.specs.Float.{nan, binary32, binary64};
 ghost use Rattle.std.specs.Float.Ieee.{of_int, to_signed};
