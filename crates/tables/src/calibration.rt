@@ -10,15 +10,15 @@ use refusals::Refusal;
 const WORDS: usize = 73;
 
 // 73 words of 32 bits and a valid mark.
+#[derive(Clone, Copy)]
 #[repr(C)]
-#[derive(Drop)]
 pub struct Calibration {
     pub words: [u32; WORDS],
     pub valid: bool,
 }
 
 // Refusal 8, or done with the calibration.
-#[derive(Drop)]
+#[derive(Clone, Copy)]
 pub struct CalibrationAnswer {
     pub refusal: Refusal,
     pub calibration: Calibration,

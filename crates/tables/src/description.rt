@@ -6,8 +6,8 @@ ghost use Rattle.tables.specs.Description.{in_bounds, description_refusal};
 use crate::bounds::within;
 use refusals::Refusal;
 
+#[derive(Clone, Copy)]
 #[repr(C)]
-#[derive(Drop)]
 pub struct Description {
     // the source's `MV_DIV`, by gain index
     pub mv_div: [f32; 2],

@@ -7,7 +7,7 @@ use crate::constants::{COUP_AC, COUP_ACDC, COUP_DC};
 
 // The unit of a current range (0 A, 1 mA, 2 uA) and its amplifier's gain index (0 times ten, 1 times
 // one).
-#[derive(Drop)]
+#[derive(Clone, Copy)]
 pub struct IuIr {
     pub iu: u8,
     pub ir: u8,

@@ -4,7 +4,7 @@ ghost use Rattle.tables.specs.Row.{is_dc, is_reference, row_kind, row_number};
 
 use crate::constants::{JOB_VCAL, JOB_ZERO};
 
-#[derive(Drop)]
+#[derive(Clone, Copy)]
 pub enum RowKind {
     // the simultaneous method's, with R34 from `stat`
     Power,

@@ -19,21 +19,21 @@ const CMP_RL_LEVEL: [f32; 12] = [
 // How far a threshold clears the middle.
 const M: f32 = 0.006;
 
-#[derive(Drop)]
+#[derive(Clone, Copy)]
 pub enum Side {
     Upper,
     Lower,
 }
 
 // The nearest entry so far.
-#[derive(Drop)]
+#[derive(Clone, Copy)]
 pub enum Pick {
     NoEntry,
     Entry(u8, f32),
 }
 
 // What the choice answers: none, or R21's code.
-#[derive(Drop)]
+#[derive(Clone, Copy)]
 pub enum Window {
     NoWindow,
     R21(u8),
