@@ -3,6 +3,5 @@ pub mod Exactly
 pub mod Within
 pub mod Step
 pub mod Interval
-pub mod Lent
 pub mod Nearest
 pub mod Stated

@@ -7,8 +7,8 @@ ghost use Rattle.numbers.specs.Binary32.{◌*f◌};
 
 use refusals::Refusal;
 
+#[derive(Clone, Copy)]
 #[repr(C)]
-#[derive(Drop)]
 pub struct Acc {
     pub mj: i64,
     pub frac: f32,
@@ -16,14 +16,14 @@ pub struct Acc {
 
 // What an add answers: the new record, with the whole millijoules that its count gained; or full,
 // refusal 6.
-#[derive(Drop)]
+#[derive(Clone, Copy)]
 pub enum Added {
     Sum(Acc, i64),
     Full,
 }
 
 // The record after an add, and the number of its answer.
-#[derive(Drop)]
+#[derive(Clone, Copy)]
 pub struct After {
     pub acc: Acc,
     pub refusal: u8,

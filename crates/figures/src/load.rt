@@ -3,8 +3,8 @@ ghost use Rattle.std.specs.Prelude.{◌≡◌};
 ghost use Rattle.figures.specs.Load.{load_volts, power_factor, reactive, totals};
 
 // W, VA, var, the power factor, V and A.
+#[derive(Clone, Copy)]
 #[repr(C)]
-#[derive(Drop)]
 pub struct Figures {
     pub p: f32,
     pub s: f32,

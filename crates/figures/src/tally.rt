@@ -8,8 +8,8 @@ use crate::acc::{Acc, Added, add_to};
 const MOST_TIME: u64 = 9223372036854775807;
 
 // The source's `e`, `va` and `t_int`: active energy in mJ, apparent energy in mVAs, time in ms.
+#[derive(Clone, Copy)]
 #[repr(C)]
-#[derive(Drop)]
 pub struct Tally {
     pub e: Acc,
     pub va: Acc,
@@ -26,7 +26,7 @@ impl Tally {
 
 // What the accounting step answers: the new tally, with the whole millijoules that its active count
 // gained, for whoever allots active energy; or full, refusal 6.
-#[derive(Drop)]
+#[derive(Clone, Copy)]
 pub enum Accounted {
     Counted(Tally, i64),
     Full,
