@@ -1,6 +1,8 @@
 // The meter's state: `Pw` by value, made of one struct for each group of fields that change together,
 // under the source's names. All are laid out as in C, so that a C host can keep one. NEW is what each
 // holds in a meter just made.
+#![tactic(auto)]
+
 ghost use Rattle.std.specs.Prelude.{◌≡◌};
 ghost use Rattle.state.specs.Fresh.{new_pw};
 ghost use Rattle.state.specs.Counting.{elapsed, deadline, count_up};
@@ -15,8 +17,8 @@ use tables::constants::{
 use tables::description::Description;
 
 // A time in ms where `set`, else none: the source's `Option<u64>`.
+#[derive(Clone, Copy)]
 #[repr(C)]
-#[derive(Drop)]
 pub struct Stamp {
     pub set: bool,
     pub at: u64,
@@ -29,8 +31,8 @@ impl Stamp {
 
 // What the meter does: on, the alternating method, the coupling asked for, DC coupling in force, and
 // that the host is to re-apply.
+#[derive(Clone, Copy)]
 #[repr(C)]
-#[derive(Drop)]
 pub struct Mode {
     pub on: bool,
     pub alt: bool,
@@ -51,8 +53,8 @@ impl Mode {
 }
 
 // The V range and the current range, and whether each is found by itself.
+#[derive(Clone, Copy)]
 #[repr(C)]
-#[derive(Drop)]
 pub struct Ranges {
     pub vr: u8,
     pub ik: u8,
@@ -74,8 +76,8 @@ impl Ranges {
 // this phase of the alternating method; `stat`, which is R34 where the row is the power row (with
 // another row it is in no register); and the quantities marked as measured (1 power, 2 voltage, 4
 // current), of which an apply clears those that it does not keep.
+#[derive(Clone, Copy)]
 #[repr(C)]
-#[derive(Drop)]
 pub struct Cycle {
     pub phase: u8,
     pub skip: u8,
@@ -97,7 +99,7 @@ impl Cycle {
 }
 
 // The three bits of `seen`.
-#[derive(Drop)]
+#[derive(Clone, Copy)]
 pub enum Quantity {
     Power,
     Voltage,
@@ -105,8 +107,8 @@ pub enum Quantity {
 }
 
 // The smoothed values: W, V and A by AC and DC part; `vac_dc` is the AC volts in DC coupling.
+#[derive(Clone, Copy)]
 #[repr(C)]
-#[derive(Drop)]
 pub struct Parts {
     pub p_ac: f32,
     pub v_ac: f32,
@@ -128,8 +130,8 @@ impl Parts {
 }
 
 // The powers of the next interval.
+#[derive(Clone, Copy)]
 #[repr(C)]
-#[derive(Drop)]
 pub struct Powers {
     pub p_tot: f32,
     pub s_last: f32,
@@ -143,8 +145,8 @@ impl Powers {
 }
 
 // Whether energy is counted, the last accounted frame's time, and the last frame's.
+#[derive(Clone, Copy)]
 #[repr(C)]
-#[derive(Drop)]
 pub struct Clock {
     pub run: bool,
     pub t_last: Stamp,
@@ -162,8 +164,8 @@ impl Clock {
 
 // Whether the drop in the meter's own path is taken off, the path's ohms by unit, the limit of the
 // continuous current in A with the seconds allowed above it, and the main readout: the order `settings`.
+#[derive(Clone, Copy)]
 #[repr(C)]
-#[derive(Drop)]
 pub struct Settings {
     pub comp: bool,
     pub r_path: [f32; 3],
@@ -185,8 +187,8 @@ impl Settings {
 // The phase step in force (`sph`), and the phase calibration: 0 off, 1 or 2 for its two rounds; how
 // many power results this round has counted, and the sum of their p / (v_ac * i_ac); the step and the
 // mean of round 1; the result.
+#[derive(Clone, Copy)]
 #[repr(C)]
-#[derive(Drop)]
 pub struct PhaseCal {
     pub sph: i8,
     pub cal: u8,
@@ -211,8 +213,8 @@ impl PhaseCal {
 
 // The stored zeros (`zx` and `zd` by current range) with their mark, and the stored gain of each V
 // range, 0.0 where the factory's counts.
+#[derive(Clone, Copy)]
 #[repr(C)]
-#[derive(Drop)]
 pub struct Corrections {
     pub zx: [i16; 6],
     pub zd: [i16; 6],
@@ -234,8 +236,8 @@ impl Corrections {
 
 // The running job (0 none), what it has measured, and the ranges and marks found at its start.
 // `used` counts the ready frames that it has used.
+#[derive(Clone, Copy)]
 #[repr(C)]
-#[derive(Drop)]
 pub struct Job {
     pub job: u8,
     pub job_step: u8,
@@ -277,8 +279,8 @@ impl Job {
 
 // The comparator's source (R20 without its counter's bit, 02h) and window (R21), whether a frequency is
 // to be had, and the V range that the window was chosen for.
+#[derive(Clone, Copy)]
 #[repr(C)]
-#[derive(Drop)]
 pub struct Comparator {
     pub r20: u8,
     pub r21: u8,
@@ -300,8 +302,8 @@ impl Comparator {
 // B; 1 and 2 the alternating voltage and current; 3 and 4 the DC row's, where AD1 stands in `lpf`),
 // whether it was dropped, its codes, and the ms since the RMS and LPF result before it, held to 65535
 // (0 for AD1). `ring_k` is the next number, `t_res` the last RMS and LPF result's time.
+#[derive(Clone, Copy)]
 #[repr(C)]
-#[derive(Drop)]
 pub struct Ring {
     pub stat: [u8; 16],
     pub disc: [bool; 16],
@@ -327,8 +329,8 @@ impl Ring {
 // The whole meter. `barred` is 0 where nothing is barred, else the coarsest unit (1 mA, 2 uA) of a
 // current range that tripped: it and the finer one are barred. `over_t0` is since when the current is
 // above its limit.
+#[derive(Clone, Copy)]
 #[repr(C)]
-#[derive(Drop)]
 pub struct Pw {
     pub description: Description,
     pub calibration: Calibration,

@@ -12,8 +12,8 @@ use tables::lookups::{aca_win, kv, shunt_ohm};
 use tables::ranges::{cal_index, iu_ir};
 
 // What a reading is worked out with: description, calibration words, and stored corrections.
+#[derive(Clone, Copy)]
 #[repr(C)]
-#[derive(Drop)]
 pub struct Instrument {
     pub description: Description,
     pub calibration: Calibration,

@@ -12,8 +12,8 @@ use state::{Parts, PhaseCal, Quantity, Ranges, also_seen, both_seen, count_up};
 use tables::constants::{R34_XX, R34_XY, R34_YY};
 
 // What a result may change.
+#[derive(Clone, Copy)]
 #[repr(C)]
-#[derive(Drop)]
 pub struct Measured {
     pub parts: Parts,
     pub seen: u8,
@@ -21,8 +21,8 @@ pub struct Measured {
 }
 
 // Whether a result was taken, and what stands after it.
+#[derive(Clone, Copy)]
 #[repr(C)]
-#[derive(Drop)]
 pub struct Taken {
     pub accepted: bool,
     pub measured: Measured,
