@@ -9,8 +9,8 @@ use takes::take::Measured;
 
 // The meter's fields that the path of a frame outside a job may change, but for the ring. What the accounting
 // changes is not a path's.
+#[derive(Clone, Copy)]
 #[repr(C)]
-#[derive(Drop)]
 pub struct Measuring {
     pub ranges: Ranges,
     pub barred: u8,
@@ -23,8 +23,8 @@ pub struct Measuring {
 // What stands after the path, and the mark to the host. Whether the source goes on to `pw_vals`, which may still
 // answer none (not all of `seen` marked), and then nothing is accounted. Whether an AD1 result was taken, which the
 // ring notes.
+#[derive(Clone, Copy)]
 #[repr(C)]
-#[derive(Drop)]
 pub struct Outcome {
     pub measuring: Measuring,
     pub mark: Stamp,

@@ -7,7 +7,7 @@ use state::{Cycle, Mode, Ring, elapsed};
 
 // One conversion: which result it was, whether it was dropped, its codes, and the ms since the last RMS and
 // LPF result, held to 65535, which are 0 for AD1.
-#[derive(Drop)]
+#[derive(Clone, Copy)]
 pub struct Raw {
     pub stat: u8,
     pub disc: bool,

@@ -8,7 +8,7 @@ use tables::constants::{ALT_V_SKIP, DC_SKIP, R20_SENSE, R21_DEFAULT, SETTLE_MS};
 use tables::lookups::cycle;
 
 // Which channel's marks stay over an apply (the source's `keep`: 0, 2, 4).
-#[derive(Drop)]
+#[derive(Clone, Copy)]
 pub enum Keep {
     Nothing,
     Voltage,
@@ -16,8 +16,8 @@ pub enum Keep {
 }
 
 // What an apply leaves, and when the host goes on.
+#[derive(Clone, Copy)]
 #[repr(C)]
-#[derive(Drop)]
 pub struct Applied {
     pub cycle: Cycle,
     pub comparator: Comparator,

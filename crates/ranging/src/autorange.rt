@@ -9,8 +9,8 @@ use state::{Comparator, Cycle, Mode, Parts, Ranges, Stamp};
 use tables::description::Description;
 
 // What an autorange may change.
+#[derive(Clone, Copy)]
 #[repr(C)]
-#[derive(Drop)]
 pub struct Ranging {
     pub ranges: Ranges,
     pub barred: u8,
@@ -19,8 +19,8 @@ pub struct Ranging {
 }
 
 // What it leaves; a mark is set exactly where a range was applied.
+#[derive(Clone, Copy)]
 #[repr(C)]
-#[derive(Drop)]
 pub struct Ranged {
     pub ranging: Ranging,
     pub mark: Stamp,

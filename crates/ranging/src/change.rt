@@ -9,7 +9,7 @@ use tables::lookups::{i_lim, v_lim};
 use tables::ranges::iu_ir;
 
 // The range stays, or becomes another.
-#[derive(Drop)]
+#[derive(Clone, Copy)]
 pub(crate) enum Change {
     Stays,
     To(u8),

@@ -7,8 +7,8 @@ use tables::constants::{ALT_V_SETTLE_MS, ALT_V_SKIP, DISC_DEFAULT, SETTLE_MS};
 use tables::lookups::cycle;
 
 // The next phase of the alternating method, and when the host goes on.
+#[derive(Clone, Copy)]
 #[repr(C)]
-#[derive(Drop)]
 pub struct Switched {
     pub cycle: Cycle,
     pub deadline: u64,
