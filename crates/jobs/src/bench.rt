@@ -10,8 +10,8 @@ use tables::constants::{JR_METHOD, JR_RUN};
 
 // The part of a meter that a job works on: all that a job may change, but `cal` (by its start) and
 // `t_poll` (by a frame).
+#[derive(Clone, Copy)]
 #[repr(C)]
-#[derive(Drop)]
 pub struct Bench {
     pub mode: Mode,
     pub ranges: Ranges,
@@ -21,8 +21,8 @@ pub struct Bench {
 }
 
 // What a call leaves of it; a mark is set exactly where a step begins.
+#[derive(Clone, Copy)]
 #[repr(C)]
-#[derive(Drop)]
 pub struct Served {
     pub bench: Bench,
     pub mark: Stamp,

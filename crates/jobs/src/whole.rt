@@ -10,16 +10,16 @@ use state::{Pw, Stamp};
 use steps::place::Kind;
 
 // What a job's start leaves, and the mark to the host.
+#[derive(Clone, Copy)]
 #[repr(C)]
-#[derive(Drop)]
 pub struct Started {
     pub pw: Pw,
     pub mark: Stamp,
 }
 
 // What a frame in a job leaves, its mark, and the ready frames that the job has used.
+#[derive(Clone, Copy)]
 #[repr(C)]
-#[derive(Drop)]
 pub struct Polled {
     pub pw: Pw,
     pub mark: Stamp,

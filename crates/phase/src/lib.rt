@@ -2,6 +2,8 @@
 // phase step in force and one at a trial step 48 away. By a straight line through their two means, the
 // step at which the load would show no active power is the new one. Every function is total: a record
 // may hold any numbers.
+#![tactic(auto)]
+
 ghost use Rattle.std.specs.Prelude.{◌≡◌};
 ghost use Rattle.phase.specs.Phase.{cal_outcome, cal_number, cal_steps, cal_started, cal_off, trial_steps, slope_of, null_of, not_reactive, on_trial, finished, round_mean, round_ended, cal_accounted};
 
@@ -11,7 +13,7 @@ use tables::constants::{CAL_FLAT, CAL_NOT_REACTIVE, CAL_OK, CAL_PF_MAX, CAL_RANG
 
 // What a calibration comes to: the phase step found; no finite null, as where the two means hardly
 // differ; or a null beyond 127.49 steps to either side.
-#[derive(Drop)]
+#[derive(Clone, Copy)]
 pub enum CalOutcome {
     Steps(i8),
     Flat,
@@ -19,8 +21,8 @@ pub enum CalOutcome {
 }
 
 // What the accounting step leaves of the phase calibration, and whether the host is to re-apply.
+#[derive(Clone, Copy)]
 #[repr(C)]
-#[derive(Drop)]
 pub struct PhaseStep {
     pub phase_cal: PhaseCal,
     pub cal_req: bool,

@@ -10,14 +10,14 @@ use tables::constants::{
 };
 
 // The two jobs.
-#[derive(Drop)]
+#[derive(Clone, Copy)]
 pub enum Kind {
     Zero,
     Gain,
 }
 
 // What a step measures.
-#[derive(Drop)]
+#[derive(Clone, Copy)]
 pub enum Place {
     // the zero of the LPF's current, in one current range
     ZeroX,

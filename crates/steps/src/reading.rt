@@ -13,7 +13,7 @@ use tables::lookups::{dcv_negk, k_acv, kv};
 use takes::scales::{code_less, rms_root, zero_y};
 
 // The main value and the second value of a frame.
-#[derive(Drop)]
+#[derive(Clone, Copy)]
 pub struct Reading {
     pub x: f32,
     pub y: f32,

@@ -10,7 +10,7 @@ use tables::lookups::v_lim;
 const SQRT_2: f32 = 1.41421356;
 
 // Of a raw step.
-#[derive(Drop)]
+#[derive(Clone, Copy)]
 pub enum RawVerdict {
     // too small: the job ends with JR_SMALL
     Small,
@@ -21,7 +21,7 @@ pub enum RawVerdict {
 }
 
 // Of the whole gain job.
-#[derive(Drop)]
+#[derive(Clone, Copy)]
 pub enum GainVerdict {
     // the two rounds differ, or the half sum is not finite: JR_UNSTABLE
     Unstable,
