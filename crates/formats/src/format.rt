@@ -5,7 +5,7 @@ ghost use Rattle.formats.specs.Formats.{decimals_of, scaled, energy_format, rang
 use crate::units::Unit;
 
 // A figure in its unit, and how many of its decimals are shown.
-#[derive(Drop)]
+#[derive(Clone, Copy)]
 pub struct Format {
     pub number: f32,
     pub decimals: u8,

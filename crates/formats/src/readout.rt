@@ -5,7 +5,7 @@ ghost use Rattle.formats.specs.Readout.{val_of, over_val, tens, no_neg_zero, sho
 use crate::format::Format;
 use crate::units::Unit;
 
-#[derive(Drop)]
+#[derive(Clone, Copy)]
 pub struct Val {
     pub number: f32,
     pub decimals: u8,

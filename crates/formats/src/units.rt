@@ -2,7 +2,7 @@
 ghost use Rattle.std.specs.Prelude.{◌≡◌};
 ghost use Rattle.formats.specs.Units.{unit_number, same_unit};
 
-#[derive(Drop)]
+#[derive(Clone, Copy)]
 pub enum Unit {
     Volt,
     Ampere,

@@ -62,7 +62,7 @@ fn too_large(x: f32, k: f32) -> bool
 
 // How many decimals fit, possibly 0, and the factor that goes with them: ten to the most, times 0.1 for
 // each one dropped.
-#[derive(Drop)]
+#[derive(Clone, Copy)]
 pub struct Fitted {
     pub k: f32,
     pub dec: u8,

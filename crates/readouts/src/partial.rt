@@ -11,7 +11,7 @@ use values::vals::{Vals, pw_vals};
 
 // Nothing while off; a zero or a gain job while one runs; else nothing where there is a reading, and
 // where there is none the current still being ranged, with the volts where they are measured.
-#[derive(Drop)]
+#[derive(Clone, Copy)]
 pub enum Partial {
     Nothing,
     Zeroing,

@@ -14,7 +14,7 @@ use values::power_vals::{Limits, PowerVals};
 
 // The main readout, volts and amperes; and the power in W or VA, also where the main readout is an
 // energy, or 0.0 where volts or amperes are over.
-#[derive(Drop)]
+#[derive(Clone, Copy)]
 pub struct Readouts {
     pub main: Val,
     pub v: Val,

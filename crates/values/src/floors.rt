@@ -9,7 +9,7 @@ use tables::decided::FLOOR_V;
 use tables::lookups::{i_lim, v_lim};
 
 // Whether the AC volts, and the AC amperes, reach their floors.
-#[derive(Drop)]
+#[derive(Clone, Copy)]
 pub struct Reached {
     pub v_ok: bool,
     pub i_ok: bool,

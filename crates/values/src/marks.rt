@@ -11,7 +11,7 @@ use tables::constants::{HINT_AC, HINT_NO_AC, R20_PB4};
 use tables::lookups::{i_lim, v_lim};
 
 // The countdown at the continuous current's limit: 0 none, 1 with so many seconds left, 2 expired.
-#[derive(Drop)]
+#[derive(Clone, Copy)]
 pub struct Countdown {
     pub over: u8,
     pub over_left: u16,

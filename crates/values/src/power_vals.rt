@@ -7,8 +7,8 @@ use state::Ranges;
 use tables::constants::{COUP_DC, MAIN_P};
 
 // Watt hours, volt ampere hours, the seconds counted, and the mean power in W: a NaN for none.
+#[derive(Clone, Copy)]
 #[repr(C)]
-#[derive(Drop)]
 pub struct Energies {
     pub e_wh: f32,
     pub vah: f32,
@@ -19,8 +19,8 @@ pub struct Energies {
 // What the meter works by: the alternating method and DC coupling in force, the coupling asked for,
 // whether the path's drop is taken off, whether energy is counted, the phase steps in force, and the main
 // readout asked for.
+#[derive(Clone, Copy)]
 #[repr(C)]
-#[derive(Drop)]
 pub struct InForce {
     pub alt: bool,
     pub dc: bool,
@@ -33,8 +33,8 @@ pub struct InForce {
 
 // Voltage and current over their ranges; the countdown at the continuous current's limit: 0 none (also
 // without a limit), 1 with `over_left` seconds to go, 2 expired.
+#[derive(Clone, Copy)]
 #[repr(C)]
-#[derive(Drop)]
 pub struct Limits {
     pub v_ol: bool,
     pub i_ol: bool,
@@ -45,8 +45,8 @@ pub struct Limits {
 // The source's `vp`, `ip` and `pp`: DC and AC parts of volts, amperes and watts, at the load where `comp`,
 // else in front of the path, with AC parts below their floors counted as 0. They are shown in AC+DC
 // coupling of the simultaneous method; else all are 0.
+#[derive(Clone, Copy)]
 #[repr(C)]
-#[derive(Drop)]
 pub struct Split {
     pub v_dc: f32,
     pub v_ac: f32,
@@ -61,8 +61,8 @@ pub struct Split {
 // and pf are, where an AC part does not reach its floor. `vdc` and `idc` are the DC parts as measured, in
 // front of the path: NaN in AC coupling, `vdc` in the alternating method too. `f_ok` is whether a frequency
 // is to be had, `burden_v` the drop in the meter's own path, `hint` 0, HINT_NO_AC or HINT_AC.
+#[derive(Clone, Copy)]
 #[repr(C)]
-#[derive(Drop)]
 pub struct PowerVals {
     pub load: Figures,
     pub vdc: f32,

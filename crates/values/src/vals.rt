@@ -17,7 +17,7 @@ use state::{
 use tables::constants::I_FLOOR;
 
 // The source's `Option<PowerVals>`: none while off, and before all that the method needs is measured.
-#[derive(Drop)]
+#[derive(Clone, Copy)]
 pub enum Vals {
     NoValues,
     Measured(PowerVals),
@@ -25,7 +25,7 @@ pub enum Vals {
 
 // What the values are worked out from and a frame's accounting leaves: `over` is the description's, `seen` the
 // cycle's; of the mode `cal_req` is not looked at.
-#[derive(Drop)]
+#[derive(Clone, Copy)]
 pub struct Basis {
     pub mode: Mode,
     pub ranges: Ranges,
@@ -38,7 +38,7 @@ pub struct Basis {
 
 // Of what a frame's accounting changes, that which the values show: what is counted, the clock, since when the
 // current is above its limit, and the phase steps.
-#[derive(Drop)]
+#[derive(Clone, Copy)]
 pub struct Changing {
     pub tally: Tally,
     pub clock: Clock,
