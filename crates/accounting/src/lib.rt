@@ -1,5 +1,7 @@
 // The accounting of a reading, the source's `pw_account`: the interval up to it is counted at the powers
 // of the reading before, and it gives the powers of the next.
+#![tactic(auto)]
+
 ghost use Rattle.std.specs.Prelude.{◌≡◌};
 ghost use Rattle.accounting.specs.Account.{last_time, finite_or_zero, powers_of, over_since};
 ghost use Rattle.accounting.specs.Divided.{counted_of, posted};
@@ -10,7 +12,7 @@ use phase::cal_account;
 use state::{Clock, PhaseCal, Powers, Stamp, elapsed};
 
 // What the accounting changes.
-#[derive(Drop)]
+#[derive(Clone, Copy)]
 pub struct Ledger {
     pub tally: Tally,
     pub clock: Clock,
@@ -21,7 +23,7 @@ pub struct Ledger {
 }
 
 // The ledger after the accounting; or full, which refuses the frame with 6, and the ledger as it was.
-#[derive(Drop)]
+#[derive(Clone, Copy)]
 pub struct LedgerAnswer {
     pub full: bool,
     pub ledger: Ledger,

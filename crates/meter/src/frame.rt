@@ -20,7 +20,7 @@ use values::methods::{alternating, measured};
 use values::vals::{Basis, Changing, load_of, values_of};
 
 // What a frame outside a job enters in the ledger, and the reading that it gives; or full.
-#[derive(Drop)]
+#[derive(Clone, Copy)]
 struct Entered {
     full: bool,
     ledger: Ledger,
@@ -29,7 +29,7 @@ struct Entered {
 
 // What a frame outside a job comes to: what its path and its accounting change, the mark, the reading, whether
 // an AD1 result was taken; or full, and then the meter is the one before, and nothing else here is of account.
-#[derive(Drop)]
+#[derive(Clone, Copy)]
 pub struct Measurement {
     pub measuring: Measuring,
     pub ledger: Ledger,
@@ -247,7 +247,7 @@ fn in_job(before: Pw, time: u64, flags: u8, codes: Codes) -> Step
 }
 
 // What becomes of a frame: it is refused, serves a job, or is measured outside of one.
-#[derive(Drop)]
+#[derive(Clone, Copy)]
 pub enum Opened {
     Turned(Refusal),
     InJob(Codes),

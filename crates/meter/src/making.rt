@@ -9,7 +9,7 @@ use tables::description::{Description, description_refusal};
 
 // Refusal 7 or 8; or done, with the meter. Where it is refused no meter is made, and a plain one that is off stands
 // in its place: a description of 1.0 throughout, and no valid word.
-#[derive(Drop)]
+#[derive(Clone, Copy)]
 pub struct Made {
     pub refusal: Refusal,
     pub pw: Pw,

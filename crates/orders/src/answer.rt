@@ -8,7 +8,7 @@ use state::{Pw, Stamp};
 use values::power_vals::PowerVals;
 
 // What a frame shows, the source's `Reading`: the readouts, and the values that they are of.
-#[derive(Drop)]
+#[derive(Clone, Copy)]
 pub enum Reading {
     NoReading,
     Read(Readouts, PowerVals),
@@ -16,7 +16,7 @@ pub enum Reading {
 
 // The refusal; the mark to the host, with the deadline; how many ready frames the job has used, 0 for a
 // call that is no frame in a job; and the reading.
-#[derive(Drop)]
+#[derive(Clone, Copy)]
 pub struct Answer {
     pub refusal: Refusal,
     pub mark: Stamp,
@@ -25,7 +25,7 @@ pub struct Answer {
 }
 
 // The meter after a call, and its answer.
-#[derive(Drop)]
+#[derive(Clone, Copy)]
 pub struct Step {
     pub pw: Pw,
     pub answer: Answer,

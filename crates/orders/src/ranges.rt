@@ -10,7 +10,7 @@ use state::{Pw, Ranges};
 use tables::bounds::at_most;
 
 // What is asked of one channel: nothing, that its range be found by itself, or a range.
-#[derive(Drop)]
+#[derive(Clone, Copy)]
 pub enum Ask {
     Stay,
     Auto,
