@@ -43,7 +43,7 @@ use Rattle.book.proofs.Relation.{Runs, Rel, few_frames}
 use Rattle.book.proofs.Frames.{ready_same, frame_good, frame_same}
 use Rattle.book.proofs.Every.{Keeps, no_job_law, none_refused, reached}
 use Rattle.book.proofs.Counts.{zero_length, gain_length}
-use Rattle.book.proofs.InForce.{in_force}
+use Rattle.book.proofs.InForce.{in_force_law}
 
 -- ---- at one point of the list
 
@@ -201,7 +201,7 @@ module _ (w : Calibration) (m : Pw) (b : Book) (h : Keeps w m b) where
         no_zeros = h.rel.no_zeros;
         kept_gains = h.rel.gains;
         words = h.calibration;
-        gains = λ i i4. ap (λ (c : Calibration). v_gain c m.corrections.vgain i) h.calibration ∙ in_force w m.corrections.vgain i (b.gain i) i4 (h.rel.gains i i4) (h.rel.bounded i);
+        gains = λ i i4. ap (λ (c : Calibration). v_gain c m.corrections.vgain i) h.calibration ∙ in_force_law w m.corrections.vgain i (b.gain i) i4 (h.rel.gains i i4) (h.rel.bounded i);
         bounds = from_least_to_most;
         job = job_is b.job h.rel.runs;
         back = λ c k r fs e i. ended k r fs e c i;

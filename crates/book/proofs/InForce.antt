@@ -39,6 +39,6 @@ held i h = go (ltb i 3) (ltb-false i 3)
     go true f = refl
     go false f = omega (arith, f refl)
 
-pub in_force : (w : Calibration) (vgain : List Float) (i : ℕ) (g : RangeGain) → i < 4 → get_or vgain i nan ≡ stored g → ((x : Float) → g ≡ earned x → plausible x ≡ true) → v_gain w vgain i ≡ in_force w i g
+pub in_force_law : (w : Calibration) (vgain : List Float) (i : ℕ) (g : RangeGain) → i < 4 → get_or vgain i nan ≡ stored g → ((x : Float) → g ≡ earned x → plausible x ≡ true) → v_gain w vgain i ≡ in_force w i g
 unfolding v_gain
-in_force w vgain i g h e p = rw (held i h, e) (counts g p w i)
+in_force_law w vgain i g h e p = rw (held i h, e) (counts g p w i)
