@@ -1,11 +1,11 @@
 -- Items: the first space from an index on, two items from an index on, and the parts of a slice as the definitions name them.
 use mathlib.Core.Path.{◌≡◌, refl, sym, ap, ◌∙◌}
-use mathlib.Core.Bool.{Bool, true, false, cond, not, ◌&&◌, and-false}
+use mathlib.Core.Bool.{Bool, true, false, cond, ◌&&◌, and-false}
 use mathlib.Core.List.{List, [], ◌∷◌}
 use Prim.Native.Nat.{ℕ, suc, ◌+◌, ◌-◌, ◌%◌, ◌≤◌, ◌<◌}
 use native.Mathlib.Numerals.{add-one}
 use native.Mathlib.Omega.{arith}
-use borrow.Author.Tests.{eq-eqb, ne_eqb, leb-true, eqb-true, not-true, not-false}
+use borrow.Author.Tests.{eq-eqb, ne_eqb, leb-true, eqb-true}
 use lib.Dec.{leb, eqb}
 use lib.ListN.{length, get_or, take, drop, drop_of_length-le, length-drop}
 use lib.Seq.{drop-cons, take_all}
@@ -77,11 +77,11 @@ unfolding same_item
 same_end a b i h k e = rw (drop_of_length-le a h, drop_of_length-le b k) at e
 
 -- ---- a test that was passed, or failed
-pub passed : {r x : Bool} → r ≡ x → not r ≡ false → x ≡ true
-passed {r} e n = sym e ∙ not-false r n
+pub passed : {r x : Bool} → r ≡ x → r ≡ true → x ≡ true
+passed e n = sym e ∙ n
 
-pub failed : {r x : Bool} → r ≡ x → not r ≡ true → x ≡ false
-failed {r} e n = sym e ∙ not-true r n
+pub failed : {r x : Bool} → r ≡ x → r ≡ false → x ≡ false
+failed e n = sym e ∙ n
 
 -- ---- T, F and H by their lengths and digits
 pub time_none : (t : List ℕ) → length t < 1 → false ≡ is_time t

@@ -1,10 +1,12 @@
 // A line of document 01's `pwline`: what it spells, or that it is of another spelling.
+#![tactic(auto)]
+
 ghost use Rattle.std.specs.Prelude.{◌≡◌, true, [], ◌∷◌, ◌≤◌, ◌<◌, length};
 ghost use Rattle.lines.specs.Digits.{digit_of, all_digits, number_of, bytes_of};
 ghost use Rattle.lines.specs.Spelling.{space_at, item_of, rest_of, same_item, is_time, is_flags, is_frame, timed_line, padded, poll_line, form_of, line_of};
 
 // What a line asks for.
-#[derive(Drop)]
+#[derive(Clone, Copy)]
 pub enum Kind {
     On,
     Zero,
@@ -13,7 +15,7 @@ pub enum Kind {
 }
 
 // A line as read. The bytes of a frame are the first `count` of `bytes`; what a kind has not is 0.
-#[derive(Drop)]
+#[derive(Clone, Copy)]
 pub struct Line {
     pub kind: Kind,
     pub time: u64,

@@ -7,40 +7,43 @@
 // 01's answers to its lines (`whole` in proofs/Stated.antt); and that the program is safe and ends. No
 // contract can say what is read and written: that the reads give the input, that the texts are written
 // and in which order, is seen in `feed_all`, `take_some` and `main`, and tested.
+#![tactic(auto)]
+
 mod session;
 mod text;
 
 ghost use Rattle.std.specs.Prelude.{◌≡◌, ◌≤◌};
 ghost use Rattle.pwline.specs.Divided.{fed_all, FedSome};
 
-use libc::{STDIN_FILENO, STDOUT_FILENO};
 use session::{Session, feed, finish, start};
+use std::io::Read;
 use text::Text;
 
 // The session after a part of the input, and whether more may come.
-#[derive(Drop)]
+#[derive(Clone, Copy)]
 struct Taken {
     session: Session,
     more: bool,
 }
 
-fn write(text: Text)
+// A write that fails is passed over.
+fn write(rt: &impl Print, text: Text)
     requires { text.count ≤ 72 }
 {
     let bytes = text.bytes;
     let n = text.count;
-    io::write_all(STDOUT_FILENO, &bytes[..n]);
+    let _ = rt.write_all(&bytes[..n]);
 }
 
-// A part of the input, byte by byte; what is due is written. A write that fails is passed over.
-fn feed_all(s: Session, part: &[u8]) -> Session
+// A part of the input, byte by byte; what is due is written.
+fn feed_all(rt: &impl Print, s: Session, part: &[u8]) -> Session
     ensures { result ≡ fed_all s part.now }
 {
     let mut out = s;
     let mut i = 0;
     while i < part.len() {
         let fed = feed(out, part[i]);
-        write(fed.text);
+        write(rt, fed.text);
         out = fed.session;
         i += 1;
     }
@@ -48,30 +51,34 @@ fn feed_all(s: Session, part: &[u8]) -> Session
 }
 
 // One read. It is the last at the end of the input, and where it fails.
-fn take_some(s: Session) -> Taken
+fn take_some(rt: &impl Print, input: &mut impl Read, s: Session) -> Taken
     ensures { FedSome s result.session }
 {
-    let mut part = io::buffer();
-    let got = libc::read(STDIN_FILENO, &mut part);
-    let n = io::count(got, &part);
-    let session = feed_all(s, &part[..n]);
+    let mut part = [0u8; 4096];
+    let n = match input.read(&mut part) {
+        Ok(n) => n,
+        Err(_) => 0,
+    };
+    let session = feed_all(rt, s, &part[..n]);
     Taken {
         session,
         more: 0 < n,
     }
 }
 
-// A proved loop has to end, and nothing says that an input does. So the loop counts its turns down,
-// from a number that no run uses up.
-fn main() {
-    let mut turns = u64::MAX;
+// A proved loop has to end, and nothing says that an input does. So the loop counts its turns, to a
+// number that no run reaches.
+fn main(rt: HostRuntime) {
+    let mut input = rt.stdin();
     let mut taken = Taken {
         session: start(),
         more: true,
     };
-    while turns > 0 && taken.more {
-        taken = take_some(taken.session);
-        turns -= 1;
+    for _ in 0..u64::MAX {
+        if !taken.more {
+            break;
+        }
+        taken = take_some(&rt, &mut input, taken.session);
     }
-    write(finish(taken.session));
+    write(&rt, finish(taken.session));
 }

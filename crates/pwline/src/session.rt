@@ -21,7 +21,7 @@ const KEPT: usize = 128;
 
 // The meter after a line; whether the line was spelled as an order or a frame; and if so, the meter's
 // refusal number.
-#[derive(Drop)]
+#[derive(Clone, Copy)]
 pub struct Reply {
     pub pw: Pw,
     pub spelled: bool,
@@ -29,7 +29,7 @@ pub struct Reply {
 }
 
 // The meter, the number of the line that is being read, and the first bytes of it.
-#[derive(Drop)]
+#[derive(Clone, Copy)]
 pub struct Session {
     pub pw: Pw,
     pub number: u64,
@@ -38,7 +38,7 @@ pub struct Session {
 }
 
 // The session after some bytes, and what is to be written.
-#[derive(Drop)]
+#[derive(Clone, Copy)]
 pub struct Fed {
     pub session: Session,
     pub text: Text,

@@ -4,7 +4,7 @@ ghost use Rattle.pwline.specs.Text.{decimal_text, refusal_text, answer_text, sho
 
 // The first `count` bytes. Three numbers of 20 digits and what stands around them have room.
 // What stands behind `count` bytes means nothing.
-#[derive(Drop)]
+#[derive(Clone, Copy)]
 pub struct Text {
     pub bytes: [u8; 72],
     pub count: usize,
