@@ -12,8 +12,8 @@ use figures::tally::{Accounted, Tally};
 use refusals::Refusal;
 
 // `struct leaf_added`
+#[derive(Clone, Copy)]
 #[repr(C)]
-#[derive(Drop)]
 pub struct NumberedSum {
     pub refusal: u8,
     pub acc: Acc,
@@ -21,8 +21,8 @@ pub struct NumberedSum {
 }
 
 // `struct leaf_accounted`
+#[derive(Clone, Copy)]
 #[repr(C)]
-#[derive(Drop)]
 pub struct NumberedTally {
     pub refusal: u8,
     pub tally: Tally,

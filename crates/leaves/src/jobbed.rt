@@ -11,8 +11,8 @@ use phase::PhaseStep;
 use state::{PhaseCal, Pw};
 
 // `struct leaf_cal_outcome`
+#[derive(Clone, Copy)]
 #[repr(C)]
-#[derive(Drop)]
 pub struct HostOutcome {
     pub number: u8,
     pub steps: i8,

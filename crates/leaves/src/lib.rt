@@ -1,6 +1,8 @@
 // The leaf functions as C functions, built as libleaves.a: only for the programs that compare them
 // with the published Rust (the root with what was decided for dmm.rs) and with the C compiler's
 // arithmetic. A host needs none of them.
+#![tactic(auto)]
+
 ghost use Rattle.std.specs.Prelude.{◌≡◌, pos};
 ghost use Rattle.std.specs.Float.{binary32, binary64};
 ghost use Rattle.std.specs.Float.Ieee.{of_int, to_signed};

@@ -13,8 +13,8 @@ use tables::calibration::Calibration;
 use tables::description::Description;
 
 // `struct leaf_outcome`
+#[derive(Clone, Copy)]
 #[repr(C)]
-#[derive(Drop)]
 pub struct MeasuredPw {
     pub pw: Pw,
     pub mark: Stamp,

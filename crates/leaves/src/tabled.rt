@@ -15,24 +15,24 @@ use tables::calibration::Calibration;
 use tables::description::Description;
 
 // `struct leaf_iu_ir`
+#[derive(Clone, Copy)]
 #[repr(C)]
-#[derive(Drop)]
 pub struct IuIrPair {
     pub iu: u8,
     pub ir: u8,
 }
 
 // `struct leaf_calibration_answer`
+#[derive(Clone, Copy)]
 #[repr(C)]
-#[derive(Drop)]
 pub struct NumberedCalibration {
     pub refusal: u8,
     pub calibration: Calibration,
 }
 
 // `struct leaf_gains`
+#[derive(Clone, Copy)]
 #[repr(C)]
-#[derive(Drop)]
 pub struct Gains {
     pub vgain: [f32; 4],
 }

@@ -1,5 +1,7 @@
 // Runs rows of document 01 and other figures from outside through the functions, and compares. It
 // writes the number of each row that differs, and at the end how many agreed and how many differed.
+#![tactic(auto)]
+
 use codes::{Codes, Decoded};
 use figures::acc::{Acc, Added};
 use figures::tally::{Accounted, Tally};
@@ -7,29 +9,28 @@ use formats::format::Format;
 use orders::answer::Step;
 use refusals::Refusal;
 use state::Pw;
+use std::io;
 use steps::place::Place;
 use tables::calibration::Calibration;
 use tables::description::Description;
 use tables::window::Window;
 use takes::take::Measured;
 
-#[derive(Drop)]
+#[derive(Clone, Copy)]
 struct Score {
     agree: u64,
     differ: u64,
 }
 
 // The score with row k counted; where it differs, its number is written.
-fn row(s: Score, k: u64, same: bool) -> Score {
+fn row(rt: &impl Print, s: Score, k: u64, same: bool) -> Score {
     if same {
         return Score {
             agree: std::num::wrapping_add_u64(s.agree, 1),
             differ: s.differ,
         };
     }
-    io::write_all(1, b"differs: row ");
-    io::print_decimal(1, k);
-    io::write_all(1, b"\n");
+    let _ = println!(rt; "differs: row {k}");
     Score {
         agree: s.agree,
         differ: std::num::wrapping_add_u64(s.differ, 1),
@@ -71,9 +72,10 @@ fn taken(frame: &[u8]) -> bool {
 }
 
 // Rows 1 to 4: document 01, "Frames and figures on each side": LPF and AD1.
-fn code_rows(s: Score) -> Score {
+fn code_rows(rt: &impl Print, s: Score) -> Score {
     let mut s = s;
     s = row(
+        rt,
         s,
         1,
         decodes(
@@ -84,16 +86,19 @@ fn code_rows(s: Score) -> Score {
         ),
     );
     s = row(
+        rt,
         s,
         2,
         decodes(b"\x01\0\0\xff\xff\xff\0\0\x04\x02\0\0\0\0", 1, -262144, 2),
     );
     s = row(
+        rt,
         s,
         3,
         decodes(b"\x01\0\0\xff\xff\xff\0\0\xf8\x02\0\0\0\0", 1, 0, 2),
     );
     row(
+        rt,
         s,
         4,
         decodes(b"\0\0\x80\xff\xff\xff\x03\0\0\x02\0\0\0\0", -8388608, 3, 2),
@@ -101,9 +106,10 @@ fn code_rows(s: Score) -> Score {
 }
 
 // Rows 5 and 6: RMS.
-fn rms_rows(s: Score) -> Score {
+fn rms_rows(rt: &impl Print, s: Score) -> Score {
     let mut s = s;
     s = row(
+        rt,
         s,
         5,
         decodes(
@@ -114,6 +120,7 @@ fn rms_rows(s: Score) -> Score {
         ),
     );
     row(
+        rt,
         s,
         6,
         decodes(
@@ -126,36 +133,41 @@ fn rms_rows(s: Score) -> Score {
 }
 
 // Rows 11 to 14: document 01, "frame not 14 bytes" is refused.
-fn length_rows(s: Score) -> Score {
+fn length_rows(rt: &impl Print, s: Score) -> Score {
     let mut s = s;
-    s = row(s, 11, !taken(b""));
-    s = row(s, 12, !taken(b"\0\0\0\0\0\0\0\0\0\0\0\0\0"));
-    s = row(s, 13, taken(b"\0\0\0\0\0\0\0\0\0\0\0\0\0\0"));
-    row(s, 14, !taken(b"\0\0\0\0\0\0\0\0\0\0\0\0\0\0\0"))
+    s = row(rt, s, 11, !taken(b""));
+    s = row(rt, s, 12, !taken(b"\0\0\0\0\0\0\0\0\0\0\0\0\0"));
+    s = row(rt, s, 13, taken(b"\0\0\0\0\0\0\0\0\0\0\0\0\0\0"));
+    row(rt, s, 14, !taken(b"\0\0\0\0\0\0\0\0\0\0\0\0\0\0\0"))
 }
 
 // Rows 21 to 28: the root of dmm.rs. Of 3 it is not IEEE 754's 3FDDB3D7; of infinity it is a NaN.
-fn root_rows(s: Score) -> Score {
+fn root_rows(rt: &impl Print, s: Score) -> Score {
     let of_infinity = numbers::sqrt(1.0 / 0.0);
     let mut s = s;
-    s = row(s, 21, has_bits(numbers::sqrt(3.0), 0x3fdd_b3d8));
-    s = row(s, 22, has_bits(numbers::sqrt(6.0), 0x401c_c470));
-    s = row(s, 23, has_bits(numbers::sqrt(18.0), 0x4087_c3b6));
-    s = row(s, 24, has_bits(numbers::sqrt(160000.0), 0x43c8_0000));
-    s = row(s, 25, has_bits(numbers::sqrt(68719476736.0), 0x4880_0000));
-    s = row(s, 26, has_bits(numbers::sqrt(-1.0), 0));
-    s = row(s, 27, has_bits(numbers::sqrt(-0.0), 0));
-    row(s, 28, of_infinity != of_infinity)
+    s = row(rt, s, 21, has_bits(numbers::sqrt(3.0), 0x3fdd_b3d8));
+    s = row(rt, s, 22, has_bits(numbers::sqrt(6.0), 0x401c_c470));
+    s = row(rt, s, 23, has_bits(numbers::sqrt(18.0), 0x4087_c3b6));
+    s = row(rt, s, 24, has_bits(numbers::sqrt(160000.0), 0x43c8_0000));
+    s = row(
+        rt,
+        s,
+        25,
+        has_bits(numbers::sqrt(68719476736.0), 0x4880_0000),
+    );
+    s = row(rt, s, 26, has_bits(numbers::sqrt(-1.0), 0));
+    s = row(rt, s, 27, has_bits(numbers::sqrt(-0.0), 0));
+    row(rt, s, 28, of_infinity != of_infinity)
 }
 
 // Rows 31 to 34: document 01, `max` of a NaN and a number, and of two zeros of unlike sign.
-fn max_rows(s: Score) -> Score {
+fn max_rows(rt: &impl Print, s: Score) -> Score {
     let nan = 0.0 / 0.0;
     let mut s = s;
-    s = row(s, 31, has_bits(numbers::max(nan, -2.0), 0xc000_0000));
-    s = row(s, 32, has_bits(numbers::max(-2.0, nan), 0xc000_0000));
-    s = row(s, 33, has_bits(numbers::max(0.0, -0.0), 0));
-    row(s, 34, has_bits(numbers::max(-0.0, 0.0), 0))
+    s = row(rt, s, 31, has_bits(numbers::max(nan, -2.0), 0xc000_0000));
+    s = row(rt, s, 32, has_bits(numbers::max(-2.0, nan), 0xc000_0000));
+    s = row(rt, s, 33, has_bits(numbers::max(0.0, -0.0), 0));
+    row(rt, s, 34, has_bits(numbers::max(-0.0, 0.0), 0))
 }
 
 // Whether current range k has this unit and gain index.
@@ -200,28 +212,28 @@ fn refused(over: f32) -> bool {
 }
 
 // Rows 41 to 48: document 01, `iu_ir` and the three windows; a middle or a swing that is a NaN.
-fn window_rows(s: Score) -> Score {
+fn window_rows(rt: &impl Print, s: Score) -> Score {
     let nan = 0.0 / 0.0;
     let mut s = s;
-    s = row(s, 41, unit_is(0, 2, 0));
-    s = row(s, 42, unit_is(5, 0, 1));
-    s = row(s, 43, unit_is(200, 0, 1));
-    s = row(s, 44, window_is(0.0, 0.05, 0xdd));
-    s = row(s, 45, no_window(0.0, 0.02));
-    s = row(s, 46, window_is(1.0, 1.0, 0x06));
-    s = row(s, 47, no_window(nan, 1.0));
-    row(s, 48, no_window(0.0, nan))
+    s = row(rt, s, 41, unit_is(0, 2, 0));
+    s = row(rt, s, 42, unit_is(5, 0, 1));
+    s = row(rt, s, 43, unit_is(200, 0, 1));
+    s = row(rt, s, 44, window_is(0.0, 0.05, 0xdd));
+    s = row(rt, s, 45, no_window(0.0, 0.02));
+    s = row(rt, s, 46, window_is(1.0, 1.0, 0x06));
+    s = row(rt, s, 47, no_window(nan, 1.0));
+    row(rt, s, 48, no_window(0.0, nan))
 }
 
 // Rows 51 to 55: document 01, "outside 2^-20 to 2^20, ends allowed": the ends, their neighbours
 // outside, a NaN.
-fn description_rows(s: Score) -> Score {
+fn description_rows(rt: &impl Print, s: Score) -> Score {
     let mut s = s;
-    s = row(s, 51, !refused(f32::from_bits(0x3580_0000)));
-    s = row(s, 52, refused(f32::from_bits(0x357f_ffff)));
-    s = row(s, 53, !refused(f32::from_bits(0x4980_0000)));
-    s = row(s, 54, refused(f32::from_bits(0x4980_0001)));
-    row(s, 55, refused(0.0 / 0.0))
+    s = row(rt, s, 51, !refused(f32::from_bits(0x3580_0000)));
+    s = row(rt, s, 52, refused(f32::from_bits(0x357f_ffff)));
+    s = row(rt, s, 53, !refused(f32::from_bits(0x4980_0000)));
+    s = row(rt, s, 54, refused(f32::from_bits(0x4980_0001)));
+    row(rt, s, 55, refused(0.0 / 0.0))
 }
 
 // Whether the step that joins millijoules to a leaves this count and a fraction of these bits.
@@ -262,29 +274,31 @@ fn counted(t_int: u64, dt: u64) -> bool {
 
 // Row 61: document 01, a fresh accumulator and twice 1/1024 J. Rows 62 to 67: the sums of refusal 6,
 // "not finite or outside -2^63 <= sum < 2^63".
-fn acc_rows(s: Score) -> Score {
+fn acc_rows(rt: &impl Print, s: Score) -> Score {
     let once = figures::acc::after_add(Acc::ZERO, 0.0009765625);
     let twice = figures::acc::after_add(once.acc, 0.0009765625);
     let mut s = s;
-    s = row(s, 61, sum_is(twice.acc, 0.0, 1, 0x3f74_0000));
+    s = row(rt, s, 61, sum_is(twice.acc, 0.0, 1, 0x3f74_0000));
     s = row(
+        rt,
         s,
         62,
         sum_is(Acc::ZERO, -9223372036854775808.0, -9223372036854775808, 0),
     );
-    s = row(s, 63, full(Acc::ZERO, -9223373136366403584.0));
-    s = row(s, 64, full(Acc::ZERO, 9223372036854775808.0));
+    s = row(rt, s, 63, full(Acc::ZERO, -9223373136366403584.0));
+    s = row(rt, s, 64, full(Acc::ZERO, 9223372036854775808.0));
     s = row(
+        rt,
         s,
         65,
         sum_is(Acc::ZERO, 9223371487098961920.0, 9223371487098961920, 0),
     );
-    s = row(s, 66, full(Acc::ZERO, 1.0 / 0.0));
-    row(s, 67, full(Acc::ZERO, 0.0 / 0.0))
+    s = row(rt, s, 66, full(Acc::ZERO, 1.0 / 0.0));
+    row(rt, s, 67, full(Acc::ZERO, 0.0 / 0.0))
 }
 
 // Rows 71 to 74: refusal 6 of a count outside signed 64 bits, at both ends. Rows 75 and 76: of the time.
-fn count_rows(s: Score) -> Score {
+fn count_rows(rt: &impl Print, s: Score) -> Score {
     let top = Acc {
         mj: 9223372036854775807,
         frac: 0.0,
@@ -294,29 +308,35 @@ fn count_rows(s: Score) -> Score {
         frac: 0.0,
     };
     let mut s = s;
-    s = row(s, 71, full(top, 1.0));
-    s = row(s, 72, sum_is(top, 0.5, 9223372036854775807, 0x3f00_0000));
-    s = row(s, 73, full(bottom, -1.0));
+    s = row(rt, s, 71, full(top, 1.0));
     s = row(
+        rt,
+        s,
+        72,
+        sum_is(top, 0.5, 9223372036854775807, 0x3f00_0000),
+    );
+    s = row(rt, s, 73, full(bottom, -1.0));
+    s = row(
+        rt,
         s,
         74,
         sum_is(bottom, -0.5, -9223372036854775808, 0xbf00_0000),
     );
-    s = row(s, 75, counted(9223372036854775806, 1));
-    row(s, 76, !counted(9223372036854775806, 2))
+    s = row(rt, s, 75, counted(9223372036854775806, 1));
+    row(rt, s, 76, !counted(9223372036854775806, 2))
 }
 
 // Rows 81 to 86: 3 V and 4 A of direct current in front of half an ohm. By Ohm's law 1 V is left at the
 // load, so 4 W and 4 VA, of which none is reactive.
-fn totals_rows(s: Score) -> Score {
+fn totals_rows(rt: &impl Print, s: Score) -> Score {
     let f = figures::load::totals(0.0, 0.0, 3.0, 0.0, 4.0, 0.5);
     let mut s = s;
-    s = row(s, 81, has_bits(f.p, 0x4080_0000));
-    s = row(s, 82, has_bits(f.s, 0x4080_0000));
-    s = row(s, 83, has_bits(f.q, 0));
-    s = row(s, 84, has_bits(f.pf, 0x3f80_0000));
-    s = row(s, 85, has_bits(f.v, 0x3f80_0000));
-    row(s, 86, has_bits(f.i, 0x4080_0000))
+    s = row(rt, s, 81, has_bits(f.p, 0x4080_0000));
+    s = row(rt, s, 82, has_bits(f.s, 0x4080_0000));
+    s = row(rt, s, 83, has_bits(f.q, 0));
+    s = row(rt, s, 84, has_bits(f.pf, 0x3f80_0000));
+    s = row(rt, s, 85, has_bits(f.v, 0x3f80_0000));
+    row(rt, s, 86, has_bits(f.i, 0x4080_0000))
 }
 
 // Whether a meter just made takes this RMS code with this R34.
@@ -352,16 +372,16 @@ fn takes_rms(stat: u8, rms: i64) -> bool {
 
 // Rows 91 to 94: document 01, XY RMS 2^36 is taken and 2^36 + 1 turned down, and so below zero. Rows 95
 // to 98: where the root, as decided, of XX (80 hex) and YY (8C hex) exceeds 262,144.
-fn limit_rows(s: Score) -> Score {
+fn limit_rows(rt: &impl Print, s: Score) -> Score {
     let mut s = s;
-    s = row(s, 91, takes_rms(0x88, 68719476736));
-    s = row(s, 92, !takes_rms(0x88, 68719476737));
-    s = row(s, 93, takes_rms(0x88, -68719476736));
-    s = row(s, 94, !takes_rms(0x88, -68719476737));
-    s = row(s, 95, takes_rms(0x80, 68719489023));
-    s = row(s, 96, !takes_rms(0x80, 68719489024));
-    s = row(s, 97, takes_rms(0x8C, 68719489023));
-    row(s, 98, !takes_rms(0x8C, 68719489024))
+    s = row(rt, s, 91, takes_rms(0x88, 68719476736));
+    s = row(rt, s, 92, !takes_rms(0x88, 68719476737));
+    s = row(rt, s, 93, takes_rms(0x88, -68719476736));
+    s = row(rt, s, 94, !takes_rms(0x88, -68719476737));
+    s = row(rt, s, 95, takes_rms(0x80, 68719489023));
+    s = row(rt, s, 96, !takes_rms(0x80, 68719489024));
+    s = row(rt, s, 97, takes_rms(0x8C, 68719489023));
+    row(rt, s, 98, !takes_rms(0x8C, 68719489024))
 }
 
 // Whether a format has this number by its bits, these decimals, and the unit of this number.
@@ -379,16 +399,16 @@ fn is_format(f: Format, bits: u32, decimals: u8, unit: u8) -> bool {
 
 // Rows 99 and 100: document 01, `energy_format` 0.5 Wh and 0.5 VAh. Row 101: 100,000 VAh, where 1e-3 is
 // not exact. Row 102: 1000 Wh is 1 kWh. In units 11 is mWh, 12 kWh, 13 VAh and 14 kVAh.
-fn format_rows(s: Score) -> Score {
+fn format_rows(rt: &impl Print, s: Score) -> Score {
     let mut s = s;
     let half = formats::format::energy_format(0.5, false);
-    s = row(s, 99, is_format(half, 0x43FA_0000, 2, 11));
+    s = row(rt, s, 99, is_format(half, 0x43FA_0000, 2, 11));
     let apparent = formats::format::energy_format(0.5, true);
-    s = row(s, 100, is_format(apparent, 0x3F00_0000, 4, 13));
+    s = row(rt, s, 100, is_format(apparent, 0x3F00_0000, 4, 13));
     let large = formats::format::energy_format(100_000.0, true);
-    s = row(s, 101, is_format(large, 0x42C8_0001, 2, 14));
+    s = row(rt, s, 101, is_format(large, 0x42C8_0001, 2, 14));
     let kilo = formats::format::energy_format(1000.0, false);
-    row(s, 102, is_format(kilo, 0x3F80_0000, 4, 12))
+    row(rt, s, 102, is_format(kilo, 0x3F80_0000, 4, 12))
 }
 
 // Whether the power has these decimals and the unit of this number in a pair of ranges.
@@ -405,38 +425,38 @@ fn shows_power(vr: u8, ik: u8, decimals: u8, unit: u8) -> bool {
 
 // Rows 103 to 114: the published `p_format` of 6 V and 60 V with each current range. In units 4 is W and 5
 // is mW.
-fn low_power_rows(s: Score) -> Score {
+fn low_power_rows(rt: &impl Print, s: Score) -> Score {
     let mut s = s;
-    s = row(s, 103, shows_power(0, 0, 4, 5));
-    s = row(s, 104, shows_power(0, 1, 3, 5));
-    s = row(s, 105, shows_power(0, 2, 2, 5));
-    s = row(s, 106, shows_power(0, 3, 4, 4));
-    s = row(s, 107, shows_power(0, 4, 3, 4));
-    s = row(s, 108, shows_power(0, 5, 3, 4));
-    s = row(s, 109, shows_power(1, 0, 3, 5));
-    s = row(s, 110, shows_power(1, 1, 2, 5));
-    s = row(s, 111, shows_power(1, 2, 4, 4));
-    s = row(s, 112, shows_power(1, 3, 3, 4));
-    s = row(s, 113, shows_power(1, 4, 2, 4));
-    row(s, 114, shows_power(1, 5, 2, 4))
+    s = row(rt, s, 103, shows_power(0, 0, 4, 5));
+    s = row(rt, s, 104, shows_power(0, 1, 3, 5));
+    s = row(rt, s, 105, shows_power(0, 2, 2, 5));
+    s = row(rt, s, 106, shows_power(0, 3, 4, 4));
+    s = row(rt, s, 107, shows_power(0, 4, 3, 4));
+    s = row(rt, s, 108, shows_power(0, 5, 3, 4));
+    s = row(rt, s, 109, shows_power(1, 0, 3, 5));
+    s = row(rt, s, 110, shows_power(1, 1, 2, 5));
+    s = row(rt, s, 111, shows_power(1, 2, 4, 4));
+    s = row(rt, s, 112, shows_power(1, 3, 3, 4));
+    s = row(rt, s, 113, shows_power(1, 4, 2, 4));
+    row(rt, s, 114, shows_power(1, 5, 2, 4))
 }
 
 // Rows 115 to 126: the published `p_format` of 600 V and 1000 V with each current range. In units 4 is W, 5 mW
 // and 6 kW.
-fn high_power_rows(s: Score) -> Score {
+fn high_power_rows(rt: &impl Print, s: Score) -> Score {
     let mut s = s;
-    s = row(s, 115, shows_power(2, 0, 2, 5));
-    s = row(s, 116, shows_power(2, 1, 4, 4));
-    s = row(s, 117, shows_power(2, 2, 3, 4));
-    s = row(s, 118, shows_power(2, 3, 2, 4));
-    s = row(s, 119, shows_power(2, 4, 1, 4));
-    s = row(s, 120, shows_power(2, 5, 1, 4));
-    s = row(s, 121, shows_power(3, 0, 2, 5));
-    s = row(s, 122, shows_power(3, 1, 4, 4));
-    s = row(s, 123, shows_power(3, 2, 3, 4));
-    s = row(s, 124, shows_power(3, 3, 2, 4));
-    s = row(s, 125, shows_power(3, 4, 1, 4));
-    row(s, 126, shows_power(3, 5, 3, 6))
+    s = row(rt, s, 115, shows_power(2, 0, 2, 5));
+    s = row(rt, s, 116, shows_power(2, 1, 4, 4));
+    s = row(rt, s, 117, shows_power(2, 2, 3, 4));
+    s = row(rt, s, 118, shows_power(2, 3, 2, 4));
+    s = row(rt, s, 119, shows_power(2, 4, 1, 4));
+    s = row(rt, s, 120, shows_power(2, 5, 1, 4));
+    s = row(rt, s, 121, shows_power(3, 0, 2, 5));
+    s = row(rt, s, 122, shows_power(3, 1, 4, 4));
+    s = row(rt, s, 123, shows_power(3, 2, 3, 4));
+    s = row(rt, s, 124, shows_power(3, 3, 2, 4));
+    s = row(rt, s, 125, shows_power(3, 4, 1, 4));
+    row(rt, s, 126, shows_power(3, 5, 3, 6))
 }
 
 // Whether the null at `s` steps has this result and these steps, 0 where it has none.
@@ -452,27 +472,27 @@ fn has_outcome(s: f32, number: u8, steps: i8) -> bool {
 
 // Rows 127 to 129: document 01, `cal_outcome` 127.49, 127.5 and infinite. Rows 130 to 134: the same below
 // zero, of a NaN, and halves, by the published text. 2 is CAL_OK, 3 CAL_FLAT and 5 CAL_RANGE.
-fn outcome_rows(s: Score) -> Score {
+fn outcome_rows(rt: &impl Print, s: Score) -> Score {
     let mut s = s;
-    s = row(s, 127, has_outcome(127.49, 2, 127));
-    s = row(s, 128, has_outcome(127.5, 5, 0));
-    s = row(s, 129, has_outcome(1.0 / 0.0, 3, 0));
-    s = row(s, 130, has_outcome(-127.49, 2, -127));
-    s = row(s, 131, has_outcome(-127.5, 5, 0));
-    s = row(s, 132, has_outcome(numbers::nan(), 3, 0));
-    s = row(s, 133, has_outcome(0.5, 2, 1));
-    row(s, 134, has_outcome(-0.5, 2, -1))
+    s = row(rt, s, 127, has_outcome(127.49, 2, 127));
+    s = row(rt, s, 128, has_outcome(127.5, 5, 0));
+    s = row(rt, s, 129, has_outcome(1.0 / 0.0, 3, 0));
+    s = row(rt, s, 130, has_outcome(-127.49, 2, -127));
+    s = row(rt, s, 131, has_outcome(-127.5, 5, 0));
+    s = row(rt, s, 132, has_outcome(numbers::nan(), 3, 0));
+    s = row(rt, s, 133, has_outcome(0.5, 2, 1));
+    row(rt, s, 134, has_outcome(-0.5, 2, -1))
 }
 
 // Row 135: document 01, zero readings -2, -2, -1. Rows 136 and 137: a mean held to 16 bits. Row 138: a half
 // goes away from zero.
-fn mean_rows(s: Score) -> Score {
+fn mean_rows(rt: &impl Print, s: Score) -> Score {
     let mut s = s;
     let mean = (0.0 - 2.0 - 2.0 - 1.0) / 3.0;
-    s = row(s, 135, steps::verdict::zero_mean(mean) == -2);
-    s = row(s, 136, steps::verdict::zero_mean(40000.0) == 32767);
-    s = row(s, 137, steps::verdict::zero_mean(-40000.0) == -32768);
-    row(s, 138, steps::verdict::zero_mean(0.5) == 1)
+    s = row(rt, s, 135, steps::verdict::zero_mean(mean) == -2);
+    s = row(rt, s, 136, steps::verdict::zero_mean(40000.0) == 32767);
+    s = row(rt, s, 137, steps::verdict::zero_mean(-40000.0) == -32768);
+    row(rt, s, 138, steps::verdict::zero_mean(0.5) == 1)
 }
 
 // Whether these codes are a signal at step 0 (`lpf` and `rms`) or at step 6 (`ad1`), with no zero stored.
@@ -486,16 +506,16 @@ fn is_signal(ad1: i32, lpf: i32, rms: i64) -> bool {
 
 // Rows 139 to 146: document 01, "root above 400, or further from the old zero .. than 4000 (20,000 for
 // AD1)"; 160,001 is the first RMS code whose root, as decided, is above 400.
-fn signal_rows(s: Score) -> Score {
+fn signal_rows(rt: &impl Print, s: Score) -> Score {
     let mut s = s;
-    s = row(s, 139, !is_signal(0, 0, 160000));
-    s = row(s, 140, is_signal(0, 0, 160001));
-    s = row(s, 141, !is_signal(0, 4000, 0));
-    s = row(s, 142, is_signal(0, 4001, 0));
-    s = row(s, 143, is_signal(0, -4001, 0));
-    s = row(s, 144, !is_signal(20000, 0, 0));
-    s = row(s, 145, is_signal(20001, 0, 0));
-    row(s, 146, is_signal(-20001, 0, 0))
+    s = row(rt, s, 139, !is_signal(0, 0, 160000));
+    s = row(rt, s, 140, is_signal(0, 0, 160001));
+    s = row(rt, s, 141, !is_signal(0, 4000, 0));
+    s = row(rt, s, 142, is_signal(0, 4001, 0));
+    s = row(rt, s, 143, is_signal(0, -4001, 0));
+    s = row(rt, s, 144, !is_signal(20000, 0, 0));
+    s = row(rt, s, 145, is_signal(20001, 0, 0));
+    row(rt, s, 146, is_signal(-20001, 0, 0))
 }
 
 // `pwline`'s meter, on where asked for.
@@ -532,38 +552,40 @@ fn short_says(on: bool, time: u64) -> u8 {
 
 // Rows 147 to 150: document 01, time 2^48 - 1 and 2^48, of an order and of a frame. Rows 151 to 153: its
 // order of refusals, 5, 4, 1.
-fn refusal_rows(s: Score) -> Score {
+fn refusal_rows(rt: &impl Print, s: Score) -> Score {
     let mut s = s;
     s = row(
+        rt,
         s,
         147,
         says(orders::switches::on(plain(false), 281474976710655)) == 0,
     );
     s = row(
+        rt,
         s,
         148,
         says(orders::switches::on(plain(false), 281474976710656)) == 5,
     );
-    s = row(s, 149, whole_says(true, 281474976710655) == 0);
-    s = row(s, 150, whole_says(true, 281474976710656) == 5);
-    s = row(s, 151, short_says(false, 281474976710656) == 5);
-    s = row(s, 152, short_says(false, 0) == 4);
-    row(s, 153, whole_says(false, 0) == 1)
+    s = row(rt, s, 149, whole_says(true, 281474976710655) == 0);
+    s = row(rt, s, 150, whole_says(true, 281474976710656) == 5);
+    s = row(rt, s, 151, short_says(false, 281474976710656) == 5);
+    s = row(rt, s, 152, short_says(false, 0) == 4);
+    row(rt, s, 153, whole_says(false, 0) == 1)
 }
 
-fn main() {
-    let s = rms_rows(code_rows(Score {
+fn main(rt: HostRuntime) -> io::Result<()> {
+    let s = Score {
         agree: 0,
         differ: 0,
-    }));
-    let s = max_rows(root_rows(length_rows(s)));
-    let s = acc_rows(description_rows(window_rows(s)));
-    let s = limit_rows(totals_rows(count_rows(s)));
-    let s = high_power_rows(low_power_rows(format_rows(s)));
-    let s = signal_rows(mean_rows(outcome_rows(s)));
-    let s = refusal_rows(s);
-    io::print_decimal(1, s.agree);
-    io::write_all(1, b" rows agree, ");
-    io::print_decimal(1, s.differ);
-    io::write_all(1, b" differ\n");
+    };
+    let s = rms_rows(&rt, code_rows(&rt, s));
+    let s = max_rows(&rt, root_rows(&rt, length_rows(&rt, s)));
+    let s = acc_rows(&rt, description_rows(&rt, window_rows(&rt, s)));
+    let s = limit_rows(&rt, totals_rows(&rt, count_rows(&rt, s)));
+    let s = high_power_rows(&rt, low_power_rows(&rt, format_rows(&rt, s)));
+    let s = signal_rows(&rt, mean_rows(&rt, outcome_rows(&rt, s)));
+    let s = refusal_rows(&rt, s);
+    let agree = s.agree;
+    let differ = s.differ;
+    println!(rt; "{agree} rows agree, {differ} differ")
 }

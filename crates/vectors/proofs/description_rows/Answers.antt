@@ -1,0 +1,19 @@
+-- The four patterns are no NaN's, by computation.
+use lib.Ieee.{nan_bits}
+use Rattle.vectors.proofs.description_rows.Goals as goal
+
+pub float_from_bits-refused : goal.float_from_bits-refused
+unfolding nan_bits
+float_from_bits-refused g c = tt
+
+pub float_from_bits-refused-2 : goal.float_from_bits-refused-2
+unfolding nan_bits
+float_from_bits-refused-2 g c = tt
+
+pub float_from_bits-refused-3 : goal.float_from_bits-refused-3
+unfolding nan_bits
+float_from_bits-refused-3 g c = tt
+
+pub float_from_bits-refused-4 : goal.float_from_bits-refused-4
+unfolding nan_bits
+float_from_bits-refused-4 g c = tt
