@@ -6,7 +6,7 @@
 # make install   the header, libpw.a and pw.pc below DESTDIR and PREFIX; make uninstall removes them
 # make clean     removes all that was built
 #
-# The libraries are proved and written by rt, to target/; all else goes to build/.
+# The libraries are proved and written by rt, and kept in build/proved; all else goes to build/.
 
 SEED = 1
 LINES = 1000000
@@ -20,7 +20,7 @@ COPIES := $(shell $(CC) -mmemcpy-strategy=libcall:-1:noalign -E -x c /dev/null >
 PLAIN = -O2 $(COPIES)
 SANITIZED = -g -O1 -fsanitize=address,undefined -fno-sanitize-recover=all
 
-LIBRARIES = target/staticlib
+LIBRARIES = build/proved
 PW = include/pw.h build/libpw.a
 LEAVES = host/leaves.h $(LIBRARIES)/libleaves.a
 BENCH = host/bench.c host/recording.c host/recording.h host/hex.h host/replay.c host/replay.h host/sheet.c host/sheet.h
@@ -46,7 +46,7 @@ example: build/pwscript
 	build/pwscript --echo < tests/example.script
 
 # All that the gate's host tests run.
-host: build/bench build/record_day build/day.rec build/sanitized/bench build/sanitized/record_day \
+host: build/pwline build/bench build/record_day build/day.rec build/sanitized/bench build/sanitized/record_day \
 	build/pwscript build/figure_lines build/value_lines build/spelled_lines build/coverage build/test_pw build/test_leaves build/test_figures \
 	build/test_state build/test_jobs build/test_values build/test_readouts build/frames build/frame_lines \
 	build/sanitized/pwscript build/sanitized/test_pw build/sanitized/test_leaves build/sanitized/test_figures \
@@ -57,17 +57,17 @@ test:
 	bash .ci/run
 
 # LINES function lines of each of three kinds, and lines of calls as they may be spelled; CALLS calls of each of SEEDS seeds, with a hash after each; frames; LINES lines of pwline.
-compare: build/pwscript build/figure_lines build/value_lines build/spelled_lines build/frames build/frame_lines build/coverage target/bin/pwline
+compare: build/pwscript build/figure_lines build/value_lines build/spelled_lines build/frames build/frame_lines build/coverage build/pwline
 	tests/compare.sh $(SEED) $(LINES)
 	tests/compare_calls.sh $(SEED) $(SEEDS) $(CALLS)
 	tests/frames.sh $(SEED) $(LINES)
-	tests/compare_pwline.sh target/bin/pwline $(SEED) $(LINES)
+	tests/compare_pwline.sh build/pwline $(SEED) $(LINES)
 
 bench: build/speed_alone build/speed/libspeed.a
 	host/speed.sh
 
 clean:
-	rm -rf build target
+	rm -rf build crates/*/out
 
 build/pwscript: $(PWSCRIPT) $(PW) $(LEAVES)
 	$(COMPILE) $(PLAIN) -o $@ $(INPUTS)
@@ -138,13 +138,13 @@ build/figure_lines: tests/figure_lines.c tests/bits.h tests/floats.h tests/lines
 build/value_lines: tests/value_lines.c tests/bits.h tests/floats.h tests/lines.h
 	$(COMPILE) $(PLAIN) -o $@ $(INPUTS) -lm
 
-# ---- the C interface: libpw.a as a host links it, which is the proved library and the names in C
+# ---- the C interface: libpw.a as a host links it, which is the proved library of crates/pw_c and the names in C
 
 METER = tests/test_meter.c tests/call_rule.h tests/job_rule.h tests/value_rule.h tests/energy.h tests/checks.h tests/pages.h \
 	tests/meters.h tests/shown.h tests/fields.h tests/floats.h tests/bits.h
 
-build/libpw.a: $(LIBRARIES)/libpw.a build/pw_names.o
-	@rm -f $@ && cp $(LIBRARIES)/libpw.a $@ && ar r $@ build/pw_names.o
+build/libpw.a: $(LIBRARIES)/libpw_c.a build/pw_names.o
+	@rm -f $@ && cp $(LIBRARIES)/libpw_c.a $@ && ar r $@ build/pw_names.o
 
 build/pw_names.o: host/pw_names.c include/pw.h
 	$(COMPILE) $(PLAIN) -c -o $@ $<
@@ -217,18 +217,21 @@ build/speed_alone: host/speed_alone.c host/speed.c host/speed.h $(PW)
 build/speed/speed.o: host/speed.c host/speed.h include/pw.h
 	$(COMPILE) $(PLAIN) -c -o $@ $<
 
-build/speed/libspeed.a: build/speed/speed.o $(LIBRARIES)/libpw.a
+build/speed/libspeed.a: build/speed/speed.o $(LIBRARIES)/libpw_c.a
 	@rm -f $@ && ar rcs $@ $<
 
-# Written again where a file of a crate has changed, come or gone. Says in one line what was written,
-# and all where the library is not proved.
-target/staticlib/lib%.a: crates.txt $(shell find crates)
-	@mkdir -p build
-	@rt staticlib $* > build/$*.log 2>&1 || { cat build/$*.log; exit 1; }
+# Written again where a file of a crate has changed, come or gone; what rt itself writes, crates/*/out, does not count.
+# Says in one line what was written, and all where the library is not proved.
+SOURCES := crates.txt $(shell find crates -mindepth 2 -name out -prune -o -print)
+
+$(LIBRARIES)/lib%.a: $(SOURCES)
+	@mkdir -p $(@D)
+	@(cd crates/$* && rt lib) > build/$*.log 2>&1 || { cat build/$*.log; exit 1; }
+	@cp crates/$*/out/lib$*.a $@
 	@tail -n 1 build/$*.log
 
-# Document 01's program, in the same way.
-target/bin/pwline: crates.txt $(shell find crates)
-	@mkdir -p build
-	@rt check pwline > build/pwline.log 2>&1 || { cat build/pwline.log; exit 1; }
-	@touch $@
+# Document 01's program, in the same way. rt builds a program only to run it, here on no input.
+build/pwline: $(SOURCES)
+	@mkdir -p $(@D)
+	@(cd crates/pwline && rt run < /dev/null) > build/pwline.log 2>&1 || { cat build/pwline.log; exit 1; }
+	@cp crates/pwline/out/pwline $@

@@ -1,4 +1,4 @@
-/* leaves.h: leaf functions of libleaves.a (`rt staticlib leaves`).
+/* leaves.h: leaf functions of libleaves.a (`rt lib` in crates/leaves).
  *
  * They are exported so that they can be compared with the published Rust, function by function (by
  * pwscript) and call by call (by tests/frames.c), and with the C compiler's arithmetic (by

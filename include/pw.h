@@ -13,8 +13,8 @@
  *   the frame call
  *   the host's part, and traps
  *
- * libpw.a is written in Rattle and proved; `rt staticlib pw` proves it again
- * and writes target/staticlib/libpw.a, for x86-64 with the System V calling
+ * libpw.a is written in Rattle and proved; `make build/libpw.a` proves it again
+ * and writes it, for x86-64 with the System V calling
  * convention. It allocates nothing, keeps nothing between calls, and needs no
  * other library. Every function answers for every argument, but for what its
  * comment says of pointers and of bools, and may be called from any thread.

@@ -51,7 +51,7 @@ there=$(find crates/book/must-fail -name '*.edit' | wc -l)
 [ "$quoted" -gt 0 ] || fail "no quotation was found"
 
 # The functions that hand back a meter: name, parameters behind the meter, and the call whose step they return.
-contracts=$(sed -n '/^pub extern "C" fn .*-> HostStep$/{N;s/^pub extern "C" fn \([a-z_]*\)(meter: Pw\(.*\)) -> HostStep\n *ensures { λ r\. ⌜ r ≡ host_step (step meter \(.*\)) ⌝ }$/\1\2 = \3/;s/, \([a-z]*\): [^,=]*[^,= ]/ \1/g;p}' crates/pw/src/calls.rt)
+contracts=$(sed -n '/^pub extern "C" fn .*-> HostStep$/{N;s/^pub extern "C" fn \([a-z_]*\)(meter: Pw\(.*\)) -> HostStep\n *ensures { result ≡ host_step (step meter \(.*\)) }$/\1\2 = \3/;s/, \([a-z]*\): [^,=]*[^,= ]/ \1/g;p}' crates/pw_c/src/calls.rt)
 diff <(cat << 'END'
 pw_on time = (On time)
 pw_off time = (Off time)
@@ -65,10 +65,10 @@ pw_energy_reset = EnergyReset
 pw_run run = (Run run)
 pw_set_settings settings = (SetSettings settings)
 pw_reapply time = (Reapply time)
-pw_frame time flags bytes = (Frame time flags (now (bytes .entry)))
+pw_frame time flags bytes = (Frame time flags bytes.now)
 END
 ) <(echo "$contracts") || fail "a contract of the C interface is another"
-grep -q -F -x '    ensures { λ r. ⌜ r ≡ host_made (make description (now (words .entry)) valid) ⌝ }' crates/pw/src/calls.rt || fail "the contract of pw_make is another"
+grep -q -F -x '    ensures { result ≡ host_made (make description words.now valid) }' crates/pw_c/src/calls.rt || fail "the contract of pw_make is another"
 
 # They are all the calls there are.
 calls=$(sed -n '/^pub data Call /,/^$/s/^  \([A-Za-z]*\) : .*/\1/p' crates/meter/specs/Calls.antt | sort)

@@ -5,8 +5,8 @@ ghost use Rattle.host.specs.Ring.{conversion};
 use state::Ring;
 
 // `struct pw_conversion`: `stat` is R34 in method B, 1 and 2 the alternating voltage and current, 3 and 4 the DC row's.
+#[derive(Clone, Copy)]
 #[repr(C)]
-#[derive(Drop)]
 pub struct HostConversion {
     pub found: bool,
     pub stat: u8,

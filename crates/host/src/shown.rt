@@ -9,16 +9,16 @@ use values::power_vals::PowerVals;
 use values::vals::Vals;
 
 // `struct pw_vals`
+#[derive(Clone, Copy)]
 #[repr(C)]
-#[derive(Drop)]
 pub struct HostVals {
     pub measured: bool,
     pub vals: PowerVals,
 }
 
 // `struct pw_val`: the unit by its number.
+#[derive(Clone, Copy)]
 #[repr(C)]
-#[derive(Drop)]
 pub struct HostVal {
     pub number: f32,
     pub decimals: u8,
@@ -35,8 +35,8 @@ pub const NO_VAL: HostVal = HostVal {
 };
 
 // `struct pw_readouts`
+#[derive(Clone, Copy)]
 #[repr(C)]
-#[derive(Drop)]
 pub struct HostReadouts {
     pub main: HostVal,
     pub v: HostVal,
@@ -45,8 +45,8 @@ pub struct HostReadouts {
 }
 
 // `struct pw_partial`: the text by its number.
+#[derive(Clone, Copy)]
 #[repr(C)]
-#[derive(Drop)]
 pub struct HostPartial {
     pub text: u8,
     pub with_volts: bool,

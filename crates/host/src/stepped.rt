@@ -14,23 +14,23 @@ use state::{Pw, Ranges, Stamp};
 use values::power_vals::{Energies, InForce, Limits, PowerVals, Split};
 
 // `struct pw_reading`
+#[derive(Clone, Copy)]
 #[repr(C)]
-#[derive(Drop)]
 pub struct HostReading {
     pub readouts: HostReadouts,
     pub vals: PowerVals,
 }
 
 // A reading, and whether there is one; where there is none every number is 0 and every mark no.
-#[derive(Drop)]
+#[derive(Clone, Copy)]
 pub struct HostRead {
     pub has_reading: bool,
     pub reading: HostReading,
 }
 
 // `struct pw_answer`: the refusal by its number.
+#[derive(Clone, Copy)]
 #[repr(C)]
-#[derive(Drop)]
 pub struct HostAnswer {
     pub refusal: u8,
     pub mark: Stamp,
@@ -40,16 +40,16 @@ pub struct HostAnswer {
 }
 
 // `struct pw_step`
+#[derive(Clone, Copy)]
 #[repr(C)]
-#[derive(Drop)]
 pub struct HostStep {
     pub meter: Pw,
     pub answer: HostAnswer,
 }
 
 // `struct pw_made`
+#[derive(Clone, Copy)]
 #[repr(C)]
-#[derive(Drop)]
 pub struct HostMade {
     pub refusal: u8,
     pub meter: Pw,

@@ -12,36 +12,31 @@ use refusals::Refusal;
 use state::{Pw, Settings};
 use tables::description::Description;
 
-#[unsafe(no_mangle)]
-pub extern "C" fn pw_make(description: Description, words: &[u32], valid: bool) -> HostMade
+pub fn pw_make(description: Description, words: &[u32], valid: bool) -> HostMade
     ensures { result ≡ host_made (make description words.now valid) }
 {
     host_made(meter::making::make(description, words, valid))
 }
 
-#[unsafe(no_mangle)]
-pub extern "C" fn pw_on(meter: Pw, time: u64) -> HostStep
+pub fn pw_on(meter: Pw, time: u64) -> HostStep
     ensures { result ≡ host_step (step meter (On time)) }
 {
     host_step(orders::switches::on(meter, time))
 }
 
-#[unsafe(no_mangle)]
-pub extern "C" fn pw_off(meter: Pw, time: u64) -> HostStep
+pub fn pw_off(meter: Pw, time: u64) -> HostStep
     ensures { result ≡ host_step (step meter (Off time)) }
 {
     host_step(orders::switches::off(meter, time))
 }
 
-#[unsafe(no_mangle)]
-pub extern "C" fn pw_method(meter: Pw, time: u64, alt: bool) -> HostStep
+pub fn pw_method(meter: Pw, time: u64, alt: bool) -> HostStep
     ensures { result ≡ host_step (step meter (Method time alt)) }
 {
     host_step(orders::switches::method(meter, time, alt))
 }
 
-#[unsafe(no_mangle)]
-pub extern "C" fn pw_ranges(meter: Pw, time: u64, v: u16, i: u16) -> HostStep
+pub fn pw_ranges(meter: Pw, time: u64, v: u16, i: u16) -> HostStep
     ensures { result ≡ host_step (step meter (SetRanges time (ask_of v) (ask_of i))) }
 {
     let v = ask_of(v);
@@ -49,57 +44,49 @@ pub extern "C" fn pw_ranges(meter: Pw, time: u64, v: u16, i: u16) -> HostStep
     host_step(orders::ranges::set_ranges(meter, time, v, i))
 }
 
-#[unsafe(no_mangle)]
-pub extern "C" fn pw_coupling(meter: Pw, time: u64, coup: u8) -> HostStep
+pub fn pw_coupling(meter: Pw, time: u64, coup: u8) -> HostStep
     ensures { result ≡ host_step (step meter (Coupling time coup)) }
 {
     host_step(orders::switches::coupling(meter, time, coup))
 }
 
-#[unsafe(no_mangle)]
-pub extern "C" fn pw_zero_job(meter: Pw, time: u64) -> HostStep
+pub fn pw_zero_job(meter: Pw, time: u64) -> HostStep
     ensures { result ≡ host_step (step meter (ZeroJob time)) }
 {
     host_step(orders::starts::zero_job(meter, time))
 }
 
-#[unsafe(no_mangle)]
-pub extern "C" fn pw_gain_job(meter: Pw, time: u64) -> HostStep
+pub fn pw_gain_job(meter: Pw, time: u64) -> HostStep
     ensures { result ≡ host_step (step meter (GainJob time)) }
 {
     host_step(orders::starts::gain_job(meter, time))
 }
 
-#[unsafe(no_mangle)]
-pub extern "C" fn pw_phase_start(meter: Pw) -> HostStep
+pub fn pw_phase_start(meter: Pw) -> HostStep
     ensures { result ≡ host_step (step meter PhaseStart) }
 {
     host_step(orders::starts::phase_start(meter))
 }
 
-#[unsafe(no_mangle)]
-pub extern "C" fn pw_energy_reset(meter: Pw) -> HostStep
+pub fn pw_energy_reset(meter: Pw) -> HostStep
     ensures { result ≡ host_step (step meter EnergyReset) }
 {
     host_step(orders::starts::energy_reset(meter))
 }
 
-#[unsafe(no_mangle)]
-pub extern "C" fn pw_run(meter: Pw, run: bool) -> HostStep
+pub fn pw_run(meter: Pw, run: bool) -> HostStep
     ensures { result ≡ host_step (step meter (Run run)) }
 {
     host_step(orders::starts::set_run(meter, run))
 }
 
-#[unsafe(no_mangle)]
-pub extern "C" fn pw_set_settings(meter: Pw, settings: Settings) -> HostStep
+pub fn pw_set_settings(meter: Pw, settings: Settings) -> HostStep
     ensures { result ≡ host_step (step meter (SetSettings settings)) }
 {
     host_step(orders::starts::set_settings(meter, settings))
 }
 
-#[unsafe(no_mangle)]
-pub extern "C" fn pw_reapply(meter: Pw, time: u64) -> HostStep
+pub fn pw_reapply(meter: Pw, time: u64) -> HostStep
     ensures { result ≡ host_step (step meter (Reapply time)) }
 {
     host_step(orders::switches::reapply(meter, time))
@@ -107,8 +94,7 @@ pub extern "C" fn pw_reapply(meter: Pw, time: u64) -> HostStep
 
 // As `meter::frame::poll` has it, in one function, and each answer is returned where it is known: a meter that
 // passes between two functions, or that two branches join on, is copied.
-#[unsafe(no_mangle)]
-pub extern "C" fn pw_frame(meter: Pw, time: u64, flags: u8, bytes: &[u8]) -> HostStep
+pub fn pw_frame(meter: Pw, time: u64, flags: u8, bytes: &[u8]) -> HostStep
     ensures { result ≡ host_step (step meter (Frame time flags bytes.now)) }
 {
     let frame = open_frame(meter.mode.on, meter.job.job, time, bytes);

@@ -1,4 +1,6 @@
-// The C interface, built as libpw.a: include/pw.h describes each function.
+// The functions of the C interface, which crates/pw_c exports: include/pw.h describes each.
+#![tactic(auto)]
+
 ghost use Rattle.std.specs.Prelude.{◌≡◌};
 ghost use Rattle.codes.specs.Frame.{decoded};
 ghost use Rattle.tables.specs.Window.{cmp_window};
@@ -19,8 +21,8 @@ use refusals::Refusal;
 use tables::window::Window;
 
 // `struct pw_codes`: the refusal's number, and the codes of the frame, 0 where it is refused.
+#[derive(Clone, Copy)]
 #[repr(C)]
-#[derive(Drop)]
 pub struct FrameCodes {
     pub refusal: u8,
     pub ad1: i32,
@@ -29,8 +31,7 @@ pub struct FrameCodes {
 }
 
 // The codes of the frame in the host's bytes, which are read and not written.
-#[unsafe(no_mangle)]
-pub extern "C" fn pw_decode(bytes: &[u8]) -> FrameCodes
+pub fn pw_decode(bytes: &[u8]) -> FrameCodes
     ensures { result ≡ frame_codes (decoded bytes.now) }
 {
     let answer = codes::decode(bytes);
@@ -53,16 +54,15 @@ pub extern "C" fn pw_decode(bytes: &[u8]) -> FrameCodes
 }
 
 // `struct pw_window`: whether a window was found, and R21, 0 where none was.
+#[derive(Clone, Copy)]
 #[repr(C)]
-#[derive(Drop)]
 pub struct HostWindow {
     pub found: bool,
     pub r21: u8,
 }
 
 // The comparator's window for a middle of c volts and a swing of a volts.
-#[unsafe(no_mangle)]
-pub extern "C" fn pw_cmp_window(c: f32, a: f32) -> HostWindow
+pub fn pw_cmp_window(c: f32, a: f32) -> HostWindow
     ensures { result ≡ host_window (cmp_window c a) }
 {
     let window = tables::window::cmp_window(c, a);
@@ -79,24 +79,21 @@ pub extern "C" fn pw_cmp_window(c: f32, a: f32) -> HostWindow
 }
 
 // The number of the kind of row that the host writes at a mark.
-#[unsafe(no_mangle)]
-pub extern "C" fn pw_row_kind(alt: bool, dc: bool, job: u8, step: u8, job_dc: bool, phase: u8) -> u8
+pub fn pw_row_kind(alt: bool, dc: bool, job: u8, step: u8, job_dc: bool, phase: u8) -> u8
     ensures { result ≡ row_number (row_kind alt dc job step job_dc phase) }
 {
     tables::row::row_number(tables::row::row_kind(alt, dc, job, step, job_dc, phase))
 }
 
 // R36 of a signed number of phase steps.
-#[unsafe(no_mangle)]
-pub extern "C" fn pw_r36_of(steps: i8) -> u8
+pub fn pw_r36_of(steps: i8) -> u8
     ensures { result ≡ r36_of steps }
 {
     tables::ranges::r36_of(steps)
 }
 
 // An accumulator that nothing was added to: `Acc::ZERO`.
-#[unsafe(no_mangle)]
-pub extern "C" fn pw_acc_fresh() -> Acc
+pub fn pw_acc_fresh() -> Acc
     ensures { result ≡ fresh_acc }
 {
     Acc::ZERO
@@ -104,8 +101,7 @@ pub extern "C" fn pw_acc_fresh() -> Acc
 
 // Adds to the host's own accumulator, and answers 0; or 6, full, and it is as it was. The body is that
 // of `Acc::add`, which cannot be exported itself: a method cannot be extern.
-#[unsafe(no_mangle)]
-pub extern "C" fn pw_acc_add(acc: &mut Acc, joules: f32) -> u8
+pub fn pw_acc_add(acc: &mut Acc, joules: f32) -> u8
     ensures { (result ≡ added_number (add_to acc.old joules)) × (acc.new ≡ added_acc acc.old (add_to acc.old joules)) × ExactAfter acc.old joules result acc.new }
 {
     let after = figures::acc::after_add(*acc, joules);
@@ -114,16 +110,15 @@ pub extern "C" fn pw_acc_add(acc: &mut Acc, joules: f32) -> u8
 }
 
 // The watt hours of an accumulator.
-#[unsafe(no_mangle)]
-pub extern "C" fn pw_acc_wh(acc: Acc) -> f32
+pub fn pw_acc_wh(acc: Acc) -> f32
     ensures { result ≡ watt_hours acc }
 {
     Acc::wh(acc)
 }
 
 // `struct pw_format`: the unit by its number.
+#[derive(Clone, Copy)]
 #[repr(C)]
-#[derive(Drop)]
 pub struct HostFormat {
     pub number: f32,
     pub decimals: u8,
@@ -143,16 +138,14 @@ fn host_format(f: Format) -> HostFormat
 }
 
 // `energy_format`: the apparent energy where `va`, else the active one.
-#[unsafe(no_mangle)]
-pub extern "C" fn pw_energy_format(wh: f32, va: bool) -> HostFormat
+pub fn pw_energy_format(wh: f32, va: bool) -> HostFormat
     ensures { result ≡ host_format (energy_format wh va) }
 {
     host_format(formats::format::energy_format(wh, va))
 }
 
 // `p_format`: a power of si W or VA, in a pair of ranges of fs W or VA full scale.
-#[unsafe(no_mangle)]
-pub extern "C" fn pw_p_format(fs: f32, si: f32, watts: bool) -> HostFormat
+pub fn pw_p_format(fs: f32, si: f32, watts: bool) -> HostFormat
     ensures { result ≡ host_format (p_format fs si watts) }
 {
     host_format(formats::format::p_format(fs, si, watts))

@@ -15,65 +15,56 @@ use host::shown::{
 use state::Pw;
 use values::power_vals::PowerVals;
 
-#[unsafe(no_mangle)]
-pub extern "C" fn pw_vals(meter: Pw) -> HostVals
+pub fn pw_vals(meter: Pw) -> HostVals
     ensures { result ≡ host_vals (pw_vals meter) }
 {
     host_vals(values::vals::pw_vals(meter))
 }
 
-#[unsafe(no_mangle)]
-pub extern "C" fn pw_state(meter: Pw) -> PowerVals
+pub fn pw_state(meter: Pw) -> PowerVals
     ensures { result ≡ pw_state meter }
 {
     values::vals::pw_state(meter)
 }
 
-#[unsafe(no_mangle)]
-pub extern "C" fn pw_reading_vals(vals: PowerVals) -> HostReadouts
+pub fn pw_reading_vals(vals: PowerVals) -> HostReadouts
     ensures { result ≡ host_readouts (reading_vals vals) }
 {
     host_readouts(readouts::readings::reading_vals(vals))
 }
 
-#[unsafe(no_mangle)]
-pub extern "C" fn pw_energy_val(vals: PowerVals) -> HostVal
+pub fn pw_energy_val(vals: PowerVals) -> HostVal
     ensures { result ≡ host_val (energy_val vals) }
 {
     host_val(readouts::readings::energy_val(vals))
 }
 
-#[unsafe(no_mangle)]
-pub extern "C" fn pw_bt_main(vals: PowerVals) -> HostVal
+pub fn pw_bt_main(vals: PowerVals) -> HostVal
     ensures { result ≡ host_val (bt_main vals) }
 {
     host_val(readouts::bluetooth::bt_main(vals))
 }
 
-#[unsafe(no_mangle)]
-pub extern "C" fn pw_bt_mode_byte(v_auto: bool, vr: u8) -> u8
+pub fn pw_bt_mode_byte(v_auto: bool, vr: u8) -> u8
     ensures { result ≡ bt_mode_byte v_auto vr }
 {
     readouts::bluetooth::bt_mode_byte(v_auto, vr)
 }
 
-#[unsafe(no_mangle)]
-pub extern "C" fn pw_partial(meter: Pw) -> HostPartial
+pub fn pw_partial(meter: Pw) -> HostPartial
     ensures { result ≡ host_partial (pw_partial meter) }
 {
     host_partial(readouts::partial::pw_partial(meter))
 }
 
-#[unsafe(no_mangle)]
-pub extern "C" fn pw_integrating(meter: Pw) -> bool
+pub fn pw_integrating(meter: Pw) -> bool
     ensures { result ≡ integrating meter }
 {
     values::vals::integrating(meter)
 }
 
 // The number of the kind of row that the host writes at a mark.
-#[unsafe(no_mangle)]
-pub extern "C" fn pw_row(meter: Pw) -> u8
+pub fn pw_row(meter: Pw) -> u8
     ensures { result ≡ row_number (row_kind meter.mode.alt meter.mode.dc meter.job.job meter.job.job_step meter.job.job_dc meter.cycle.phase) }
 {
     let kind = tables::row::row_kind(
@@ -88,8 +79,7 @@ pub extern "C" fn pw_row(meter: Pw) -> u8
 }
 
 // One of the sixteen latest conversions, by its age.
-#[unsafe(no_mangle)]
-pub extern "C" fn pw_conversion(meter: Pw, age: u8) -> HostConversion
+pub fn pw_conversion(meter: Pw, age: u8) -> HostConversion
     ensures { result ≡ conversion meter.ring age }
 {
     let ring = meter.ring;
