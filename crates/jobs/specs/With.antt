@@ -1,4 +1,4 @@
--- A record with some of its fields replaced. The logic has no update of records, so each writes all fields out; those not named in its line of comment stay.
+-- A record with some of its fields replaced. Each writes all fields out; those not named in its line of comment stay.
 use Rattle.std.specs.Prelude.{Bool, List, ℕ, ℤ, Float}
 use Rattle.state.specs.declared.Mode.{Mode}
 use Rattle.state.specs.declared.Cycle.{Cycle}

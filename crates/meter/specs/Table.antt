@@ -1,4 +1,4 @@
--- Document 01's table "What the meter says back", rows 0 to 6, columns "When" and "Leaves" (7 and 8 are `make`'s), and its order: "otherwise 5, 4, 1, 2, 3, and 6 last". proofs/Table.antt has it of `step`, for every meter and every call: `IsRefused-as`, `leaves` and `told_alone`.
+-- Document 01's table "What the meter says back", rows 0 to 6, columns "When" and "Leaves" (7 and 8 are `make`'s), and its order: "otherwise 5, 4, 1, 2, 3, and 6 last". proofs/Table.antt has it of `step`, for every meter and every call: `refused_as`, `leaves` and `told_alone`.
 use Rattle.std.specs.Prelude.{Bool, false, not, ◌&&◌, ◌||◌, cond, List, ℕ, eqb, length}
 use Rattle.refusals.specs.declared.Refusal.{Refusal}
 use Rattle.refusals.specs.declared.Refusal.TheVariants as refusal

@@ -20,7 +20,7 @@ pub fn is_finite(x: f32) -> bool
     if x < infinity { -infinity < x } else { false }
 }
 
-// A NaN. The kit refuses a constant that holds one.
+// A NaN.
 pub fn nan() -> f32
     ensures { result ≡ nan }
 {

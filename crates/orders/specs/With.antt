@@ -1,4 +1,4 @@
--- A record with some of its fields replaced. The logic has no update of records, so each writes all fields out; those not named in its line of comment stay.
+-- A record with some of its fields replaced. Each writes all fields out; those not named in its line of comment stay.
 use Rattle.std.specs.Prelude.{Bool, ℕ}
 use Rattle.figures.specs.declared.tally.Tally.{Tally}
 use Rattle.state.specs.declared.Clock.{Clock}

@@ -1,4 +1,4 @@
--- The source's constants, each under its name in camel case. A float that is one number is given by its bits, with the source's decimal beside it: `float_constants` lists the
+-- The source's constants, each under its name in lower case. A float that is one number is given by its bits, with the source's decimal beside it: `float_constants` lists the
 -- decimals, and proofs/Nearest.antt shows that each of these floats is the binary32 number nearest its decimal.
 use Rattle.std.specs.Prelude.{List, [], ◌∷◌, ℕ, ◌%◌, get_or, Float}
 use Rattle.std.specs.Float.{binary32}

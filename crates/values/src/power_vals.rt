@@ -89,8 +89,8 @@ impl Split {
 }
 
 impl PowerVals {
-    // The source's ZERO in all but the mean power, which is a NaN there, and this kit refuses a
-    // constant that holds one. So it is not public: `zero` gives the whole record.
+    // The source's ZERO in all but the mean power, which is a NaN there. So it is not public: `zero`
+    // gives the whole record.
     const ZERO: PowerVals = PowerVals {
         load: Figures {
             p: 0.0,

@@ -1,4 +1,4 @@
--- The bytes are gathered from the last to the first. The invariant: raw is the number in the bytes from `at + left` on, which has 8 bits for each of them.
+-- Each byte gathered comes in front of those behind it; once none is left, raw is the number in all of them.
 use Prim.Native.Nat.{◌+◌, ◌*◌, ◌-◌, ◌<◌}
 use native.Mathlib.Omega.{arith}
 use native.Mathlib.Nat.{le_refl}

@@ -1,4 +1,4 @@
--- The invariant: whether all are digits is whether those from i on are.
+-- A byte that is no digit settles it; a digit leaves it to the rest, and the empty rest is all digits.
 use mathlib.Core.Path.{refl}
 use native.Mathlib.Omega.{arith}
 use Rattle.lines.proofs.Digits.{digits_stop, digits_go, digits_end}

@@ -1,4 +1,4 @@
--- The invariant: the number read so far, read on from i, is the whole one; it is small enough that the next digit fits.
+-- Each digit is read on, and at most 15 of them fit; at the end the number read is the whole one.
 use mathlib.Core.Path.{◌≡◌, refl, ◌∙◌}
 use native.Mathlib.Omega.{arith}
 use lib.ListN.{get_or}

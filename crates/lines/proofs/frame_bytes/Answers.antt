@@ -1,4 +1,4 @@
--- The invariant: the first i bytes with those of the digits left are all, and zeros stand behind them.
+-- Each pair of digits gives the next byte, in the place of a zero; at the end no digits are left.
 use mathlib.Core.Path.{refl, ◌∙◌}
 use native.Mathlib.Omega.{arith}
 use lib.ListN.{length-set}

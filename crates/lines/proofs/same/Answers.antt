@@ -1,4 +1,4 @@
--- The invariant: whether two items of one length are the same is whether they are from i on.
+-- Items of two lengths are not the same; else a byte that differs settles it, and one that agrees leaves it to the rest.
 use mathlib.Core.Path.{refl}
 use native.Mathlib.Omega.{arith}
 use Rattle.lines.proofs.Items.{unlike_length, unlike, alike, same_end}

@@ -1,4 +1,4 @@
--- The invariant: no space stands before i, so the first one is as far behind i as it is in the rest.
+-- A space at i is the first; any other byte leaves it to the rest, and with no rest there is none.
 use native.Mathlib.Omega.{arith}
 use Rattle.lines.proofs.Items.{space_here, space_later, space_none}
 use Rattle.lines.proofs.space.Goals as goal

@@ -1,4 +1,4 @@
--- After i rounds s is ten to the i. The measure is what is left of n.
+-- Each round is one more product by ten, and at the end there were n.
 use mathlib.Core.Path.{◌≡◌, refl, sym, ap, ◌∙◌}
 use Prim.Native.Nat.{ℕ, ◌≤◌}
 use native.Mathlib.Numerals.{add-one}

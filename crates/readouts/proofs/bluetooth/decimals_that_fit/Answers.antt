@@ -1,4 +1,4 @@
--- The search from k and dec gives what the whole search gives. The measure is the decimals left.
+-- Each round is one of the search; it ends where a count fits, or no decimal is left.
 use mathlib.Core.Path.{◌≡◌, sym, ap, ◌∙◌}
 use Prim.Native.Nat.{ℕ, ◌≤◌}
 use native.Mathlib.Omega.{arith}

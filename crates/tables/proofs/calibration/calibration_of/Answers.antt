@@ -1,4 +1,4 @@
--- The invariant: the first k words are copied. At the end that is all of them.
+-- Words that are not 73 are refused; else each turn copies one more, and at the end all are copied.
 use Prim.Native.Nat.{ℕ, ◌<◌}
 use lib.ListN.{length-set}
 use native.Mathlib.Nat.{not-suc-le-zero}

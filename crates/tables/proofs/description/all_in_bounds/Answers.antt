@@ -1,4 +1,4 @@
--- The invariant: the numbers not yet looked at decide.
+-- A number out of bounds settles it; one in bounds leaves it to the rest, and an empty rest is in bounds.
 use mathlib.Core.Path.{refl, sym, ◌∙◌}
 use native.Mathlib.Omega.{arith}
 use Rattle.tables.proofs.Every.{passed, failed, ended}

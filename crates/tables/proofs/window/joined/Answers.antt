@@ -7,7 +7,6 @@ use Rattle.tables.proofs.Walk.{no_upper, no_lower, both}
 use Rattle.tables.specs.Window.{FourBits}
 use Rattle.tables.proofs.window.joined.Goals as goal
 
--- both codes have four bits
 pub overflow_mul-result : goal.overflow_mul-result
 overflow_mul-result c =
     let up : c.in-Entry.h < 16 = subst FourBits c.in-Entry.is c.requires.0 in

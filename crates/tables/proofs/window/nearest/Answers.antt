@@ -1,4 +1,4 @@
--- The invariant: the walk over the first i entries picked what is held.
+-- Each turn picks as the walk does with one more entry, and at the end it has met every entry.
 use mathlib.Core.Path.{refl}
 use native.Mathlib.Omega.{arith}
 use Rattle.tables.proofs.Walk.{one_more, ended}
