@@ -13,15 +13,14 @@
  *   the frame call
  *   the host's part, and traps
  *
- * libpw.a is written in Rattle and proved; `make build/libpw.a` proves it again
- * and writes it, for x86-64 with the System V calling
- * convention. It allocates nothing, keeps nothing between calls, and needs no
- * other library. Every function answers for every argument, but for what its
- * comment says of pointers and of bools, and may be called from any thread.
- * The names at the end of this file are C, in pw_names.c; `make install` puts
- * both in one archive, so that a host links -lpw alone. The header is C99 or
- * later, or C++11 or later; in C++ some structs share their name with a
- * function, so write `struct`.
+ * libpw.a is written in Rattle and proved; `make build/libpw.a` proves it and
+ * writes it, for x86-64 with the System V calling convention. It allocates
+ * nothing, keeps nothing between calls, and needs no other library. Every
+ * function answers for every argument, but for what its comment says of pointers
+ * and of bools, and may be called from any thread. The names at the end of this
+ * file are C, in pw_names.c, and stand in the same archive, so that a host links
+ * -lpw alone. The header is C99 or later, or C++11 or later; in C++ some structs
+ * share their name with a function, so write `struct`.
  *
  * The processor's floating-point mode must be the one that a C program starts
  * with: rounding to nearest, subnormals neither flushed to zero nor read as
