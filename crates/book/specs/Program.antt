@@ -1,4 +1,4 @@
--- The program's meter after a list of calls. A host keeps a meter, hands it to a function of the C interface (crates/pw/src/calls.rt), and keeps the one that it is handed back.
+-- The program's meter after a list of calls. A host keeps a meter, hands it to a function of the C interface (crates/pw_c/src/calls.rt), and keeps the one that it is handed back.
 use Rattle.std.specs.Prelude.{◌≡◌, Bool, List, [], ◌∷◌, ℕ}
 use Rattle.tables.specs.declared.description.Description.{Description}
 use Rattle.state.specs.declared.Pw.{Pw}
@@ -10,7 +10,7 @@ use Rattle.book.specs.Book.{books, blank}
 use Rattle.book.specs.Demand3.{Agrees, fed}
 use Rattle.book.specs.Earned.{EarnedIn}
 
--- what the function of each call returns: `f m (On t)` is the value of `pw_on(m, t)`, and so on. Each function's contract in crates/pw/src/calls.rt is this equation, for its own call. C hands over times of 64 bits, flags and bytes of 8, and so on; of a call with a larger number, or a meter that no struct of C can hold, f is what the equation says: none is met, since `pw_make` and each function hand out a meter that it can
+-- what the function of each call returns: `f m (On t)` is the value of `pw_on(m, t)`, and so on. Each function's contract in crates/pw_c/src/calls.rt is this equation, for its own call. C hands over times of 64 bits, flags and bytes of 8, and so on; of a call with a larger number, or a meter that no struct of C can hold, f is what the equation says: none is met, since `pw_make` and each function hand out a meter that it can
 abbrev pub Contracts : (Pw → Call → HostStep) → Type 0
 Contracts f = (m : Pw) (c : Call) → f m c ≡ host_step (step m c)
 
