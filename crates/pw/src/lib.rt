@@ -99,8 +99,7 @@ pub fn pw_acc_fresh() -> Acc
     Acc::ZERO
 }
 
-// Adds to the host's own accumulator, and answers 0; or 6, full, and it is as it was. The body is that
-// of `Acc::add`, which cannot be exported itself: a method cannot be extern.
+// Adds to the host's own accumulator, and answers 0; or 6, full, and it is as it was. The body is that of `Acc::add`.
 pub fn pw_acc_add(acc: &mut Acc, joules: f32) -> u8
     ensures { (result ≡ added_number (add_to acc.old joules)) × (acc.new ≡ added_acc acc.old (add_to acc.old joules)) × ExactAfter acc.old joules result acc.new }
 {
