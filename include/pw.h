@@ -599,7 +599,7 @@ struct pw_split {
 
 /* Hints. */
 #define PW_HINT_NONE 0
-#define PW_HINT_NO_AC 1 /* AC+DC coupling, and there is no AC part */
+#define PW_HINT_NO_AC 1 /* AC+DC coupling, simultaneous method: a DC part, and no AC part */
 #define PW_HINT_AC 2    /* DC coupling, and there is an AC part */
 
 /* All values. NaN in a float says that there is no such value: p, q and pf in

@@ -93,6 +93,7 @@ fn byte(high: u8, low: u8) -> u8
 }
 
 // Where the first space stands, or the length where there is none.
+#[tactic(auto, using(crate::proofs::Items::space_here, crate::proofs::Items::space_later, crate::proofs::Items::space_none))]
 fn space(s: &[u8]) -> usize
     ensures { (result ≡ space_at s.now) × (result ≤ length s.now) }
 {
@@ -145,6 +146,7 @@ fn same(a: &[u8], b: &[u8]) -> bool
 }
 
 // 1 to 15 decimal digits.
+#[tactic(auto, using(crate::proofs::Items::time_none, crate::proofs::Items::time_over, crate::proofs::Items::time_by_digits))]
 fn is_time(t: &[u8]) -> bool
     ensures { result ≡ is_time t.now }
 {
@@ -168,6 +170,7 @@ fn is_flags(f: &[u8]) -> bool
 }
 
 // 2 to 64 hex digits, even in number.
+#[tactic(auto, using(crate::proofs::Items::frame_none, crate::proofs::Items::frame_over, crate::proofs::Items::frame_odd, crate::proofs::Items::frame_by_digits))]
 fn is_frame(h: &[u8]) -> bool
     ensures { result ≡ is_frame h.now }
 {

@@ -1,5 +1,5 @@
 -- Binary32 as the source computes with it: its operators, and `is_finite`, `abs`, `max`, `clamp` and `signum` of Rust's `f32`, over every value.
--- A value is lib.Ieee's: `nan` (there is only one, so one NaN equals another), `inf s`, or `fin s m e`, which is m * 2 ^ e; the sign s is true for minus.
+-- A value is that of std's IEEE 754: `nan` (there is only one, so one NaN equals another), `inf s`, or `fin s m e`, which is m * 2 ^ e; the sign s is true for minus.
 use Rattle.std.specs.Prelude.{Bool, true, false, cond, from_bits, is_nan, Float}
 use Rattle.std.specs.Float.{nan, inf, fin, binary32}
 use Rattle.std.specs.Float.Ieee.{add, sub, mul, div, lt, neg}

@@ -1,4 +1,4 @@
--- Conversions that lib.Ieee does not have, and the rounding that they share. Whole numbers to binary32 and binary64 are lib.Ieee's `of_int`; cutting to h bits and a sign,
+-- Conversions that std's IEEE 754 does not have, and the rounding that they share. Whole numbers to binary32 and binary64 are its `of_int`; cutting to h bits and a sign,
 -- as Rust's `as i64`, `as i32`, `as i16` and `as i8` do (toward zero, held to the range, 0 for a NaN), is its `to_signed h`.
 use Rattle.std.specs.Prelude.{ℕ, ◌*◌, ◌/◌, ◌%◌, cond, from_bits, Float}
 use Prim.Native.Nat.{compare}

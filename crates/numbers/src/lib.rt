@@ -1,6 +1,6 @@
 // Module 1 of document 01, numbers: what the source takes from Rust's f32 and from dmm.rs, worked
 // out from bits. Every public function is total, and its contract is one equation with a definition
-// of specs/ or of the logic's IEEE 754 (lib.Ieee), where one type of values serves both formats.
+// of specs/ or of std's IEEE 754, where one type of values serves both formats.
 #![tactic(auto)]
 
 ghost use Rattle.std.specs.Prelude.{◌≡◌, ◌^◌, ◌<◌, ◌≤◌, pos, from_bits};
@@ -201,6 +201,7 @@ pub fn half_away(a: f32) -> f32
 // The binary32 pattern of the f64 whose pattern is b, rounded. b has a clear sign and is at most
 // infinity's (7FF0000000000000h), so it is no NaN's, and neither is the answer (at most 7F800000h).
 // Past the largest value it is infinity's; then come the normal values, the subnormal ones, and zero.
+#[tactic(auto, using(crate::proofs::Narrow::over_b, crate::proofs::Narrow::normal_b, crate::proofs::Narrow::normal_pattern, crate::proofs::Narrow::unit_ok, crate::proofs::Narrow::low_le, crate::proofs::Narrow::low_b, crate::proofs::Narrow::tiny_b))]
 fn narrow_pattern(b: u64) -> u32
     requires { b ≤ 9218868437227405312 }
     ensures { (from_bits binary32 result ≡ narrow (from_bits binary64 b)) × (result ≤ 2139095040) }

@@ -1,4 +1,4 @@
--- The DC path as the code divides it. The proof of `dc_frame` says that `dc_frame` of specs/Dc.antt is `dc_after_v` of this.
+-- The DC path as the code divides it: the function `dc_frame` works out `dc_after_v` of this, and its contract says that this is `dc_frame` of specs/Dc.antt.
 use Rattle.std.specs.Prelude.{cond, ℕ}
 use Rattle.codes.specs.declared.Codes.{Codes}
 use Rattle.codes.specs.Flags.{holds_rms_lpf}

@@ -152,6 +152,7 @@ pub fn feed(s: Session, b: u8) -> Fed
 }
 
 // The end of the input: a last line without a line feed is answered.
+#[tactic(auto, unfolding(crate::specs::Divided::last_text))]
 pub fn finish(s: Session) -> Text
     ensures { (result.count ≤ 72) × (shown result ≡ last_text s) }
 {

@@ -29,6 +29,7 @@ pub struct Taken {
 }
 
 // Whether |RMS| is above 2^36.
+#[tactic(auto, using(crate::proofs::Whole::too_large, crate::proofs::Whole::too_large_below))]
 fn xy_too_large(rms: i64) -> bool
     ensures { result ≡ xy_too_large rms }
 {

@@ -1,4 +1,4 @@
--- The values as the code divides them: by the parts of a meter that a frame's accounting leaves, and those that it changes. The contracts of `load_of` and `values_of` speak of it; a reader of `pw_vals` need not believe it: proofs/vals/values/Answers.antt says that it is `values` of specs/Vals.antt.
+-- The values as the code divides them: by the parts of a meter that a frame's accounting leaves, and those that it changes. The contracts of `load_of` and `values_of` speak of it; a reader of `pw_vals` need not believe it: the function `values` is built of them, and its contract is `values` of specs/Vals.antt.
 use Rattle.std.specs.Prelude.{Bool, not}
 use Rattle.numbers.specs.Binary32.{◌*f◌}
 use Rattle.figures.specs.declared.load.Figures.{Figures}
