@@ -1,5 +1,5 @@
-// The accounting of a reading, the source's `pw_account`: the interval up to it is counted at the powers
-// of the reading before, and it gives the powers of the next.
+//! The accounting of a reading, the source's `pw_account`: the interval up to it is counted at the powers
+//! of the reading before, and it gives the powers of the next.
 #![tactic(auto)]
 
 ghost use Rattle.std.specs.Prelude.{◌≡◌};
@@ -11,7 +11,7 @@ use figures::tally::{Accounted, Tally, accounting_step};
 use phase::cal_account;
 use state::{Clock, PhaseCal, Powers, Stamp, elapsed};
 
-// What the accounting changes.
+/// What the accounting changes.
 #[derive(Clone, Copy)]
 pub struct Ledger {
     pub tally: Tally,
@@ -22,7 +22,7 @@ pub struct Ledger {
     pub cal_req: bool,
 }
 
-// The ledger after the accounting; or full, which refuses the frame with 6, and the ledger as it was.
+/// The ledger after the accounting; or full, which refuses the frame with 6, and the ledger as it was.
 #[derive(Clone, Copy)]
 pub struct LedgerAnswer {
     pub full: bool,
@@ -92,7 +92,7 @@ fn over_since(before: Stamp, i: f32, i_cont: f32, time: u64) -> Stamp
     before
 }
 
-// The ledger after a reading with these figures. `active` is whether the active energy counts.
+/// The ledger after a reading with these figures. `active` is whether the active energy counts.
 pub fn posted(before: Ledger, active: bool, i_cont: f32, load: Figures, time: u64) -> LedgerAnswer
     ensures { result ≡ posted before active i_cont load time }
 {

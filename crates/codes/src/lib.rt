@@ -1,4 +1,4 @@
-// Module 1 of document 01, codes: a frame's three converter codes, and its flags.
+//! Module 1 of document 01, codes: a frame's three converter codes, and its flags.
 #![tactic(auto)]
 
 ghost use Rattle.std.specs.Prelude.{◌≡◌, ◌+◌, ◌≤◌, ◌<◌, length};
@@ -15,7 +15,7 @@ const INTF_LPF: u8 = 8;
 
 const INTF_RMS: u8 = 16;
 
-// The converter codes of one frame.
+/// The converter codes of one frame.
 #[derive(Clone, Copy)]
 pub struct Codes {
     pub ad1: i32,
@@ -23,7 +23,7 @@ pub struct Codes {
     pub rms: i64,
 }
 
-// What decoding answers: the codes, or refusal 4.
+/// What decoding answers: the codes, or refusal 4.
 #[derive(Clone, Copy)]
 pub enum Decoded {
     Taken(Codes),
@@ -58,8 +58,8 @@ fn little_endian(frame: &[u8], at: usize, n: usize) -> u64
     raw
 }
 
-// The codes of a lent frame, or refusal 4 for every length but 14. It reads bytes 0..2, 6..8 and
-// 9..13, and of a frame of another length none.
+/// The codes of a lent frame, or refusal 4 for every length but 14. It reads bytes 0..2, 6..8 and
+/// 9..13, and of a frame of another length none.
 pub fn decode(frame: &[u8]) -> Decoded
     ensures { result ≡ decoded frame.now }
 {
@@ -72,14 +72,14 @@ pub fn decode(frame: &[u8]) -> Decoded
     Decoded::Taken(Codes { ad1, lpf, rms })
 }
 
-// Whether the flags hold the AD1 bit.
+/// Whether the flags hold the AD1 bit.
 pub fn holds_ad1(flags: u8) -> bool
     ensures { result ≡ holds_ad1 flags }
 {
     flags / INTF_AD1 % 2 == 1
 }
 
-// Whether the flags hold both the RMS and the LPF bit.
+/// Whether the flags hold both the RMS and the LPF bit.
 pub fn holds_rms_lpf(flags: u8) -> bool
     ensures { result ≡ holds_rms_lpf flags }
 {

@@ -1,5 +1,5 @@
-// The energy accumulator: whole millijoules, and a fraction of one, so that a small energy still
-// counts beside a large total.
+//! The energy accumulator: whole millijoules, and a fraction of one, so that a small energy still
+//! counts beside a large total.
 ghost use Rattle.std.specs.Prelude.{◌≡◌, ◌+ℤ◌};
 ghost use Rattle.figures.specs.Acc.{sum_in_range, count_in_range, acc_step, thousand, add_to, added_number, added_acc, after, watt_hours};
 ghost use Rattle.figures.specs.Exact.{Exact, ExactAfter};
@@ -14,15 +14,15 @@ pub struct Acc {
     pub frac: f32,
 }
 
-// What an add answers: the new record, with the whole millijoules that its count gained; or full,
-// refusal 6.
+/// What an add answers: the new record, with the whole millijoules that its count gained; or full,
+/// refusal 6.
 #[derive(Clone, Copy)]
 pub enum Added {
     Sum(Acc, i64),
     Full,
 }
 
-// The record after an add, and the number of its answer.
+/// The record after an add, and the number of its answer.
 #[derive(Clone, Copy)]
 pub struct After {
     pub acc: Acc,
@@ -32,7 +32,7 @@ pub struct After {
 impl Acc {
     pub const ZERO: Acc = Acc { mj: 0, frac: 0.0 };
 
-    // Adds to the caller's own record, and answers 0; or 6, full, and the record is as it was.
+    /// Adds to the caller's own record, and answers 0; or 6, full, and the record is as it was.
     pub fn add(&mut self, joules: f32) -> u8
         ensures { (result ≡ added_number (add_to self.old joules)) × (self.new ≡ added_acc self.old (add_to self.old joules)) × ExactAfter self.old joules result self.new }
     {
@@ -41,7 +41,7 @@ impl Acc {
         after.refusal
     }
 
-    // Watt hours.
+    /// Watt hours.
     pub fn wh(self) -> f32
         ensures { result ≡ watt_hours self }
     {
@@ -62,7 +62,7 @@ fn sum_in_range(x: f32) -> bool
     }
 }
 
-// Whether the count m + w is within signed 64 bits.
+/// Whether the count m + w is within signed 64 bits.
 pub fn count_in_range(m: i64, w: i64) -> bool
     ensures { result ≡ count_in_range (m +ℤ w) }
 {
@@ -73,8 +73,8 @@ pub fn count_in_range(m: i64, w: i64) -> bool
     }
 }
 
-// The accumulator's own step: millijoules join the fraction, and the sum's whole part moves over to
-// the count. Full where the sum or the new count is out of range.
+/// The accumulator's own step: millijoules join the fraction, and the sum's whole part moves over to
+/// the count. Full where the sum or the new count is out of range.
 pub fn step(a: Acc, millijoules: f32) -> Added
     ensures is { result ≡ acc_step a millijoules }
     ensures exact { Exact a millijoules result }
@@ -98,7 +98,7 @@ pub fn step(a: Acc, millijoules: f32) -> Added
     Added::Full
 }
 
-// The source's `Acc::add`, by value.
+/// The source's `Acc::add`, by value.
 pub fn add_to(a: Acc, joules: f32) -> Added
     ensures is { result ≡ add_to a joules }
     ensures exact { Exact a (joules *f thousand) result }
@@ -106,8 +106,8 @@ pub fn add_to(a: Acc, joules: f32) -> Added
     step(a, joules * 1000.0)
 }
 
-// What stands after an add: the new record and 0, or the old one and 6. `add` stores the one and
-// returns the other.
+/// What stands after an add: the new record and 0, or the old one and 6. `add` stores the one and
+/// returns the other.
 pub fn after_add(a: Acc, joules: f32) -> After
     ensures { result ≡ after a (add_to a joules) }
 {

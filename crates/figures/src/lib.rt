@@ -1,5 +1,5 @@
-// Module 3 of document 01: the totals, the smoothing, the accumulator and the tally of energies and
-// time.
+//! Module 3 of document 01: the totals, the smoothing, the accumulator and the tally of energies and
+//! time.
 #![tactic(auto)]
 
 pub mod acc;

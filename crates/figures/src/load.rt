@@ -1,8 +1,8 @@
-// The figures of the load: power, apparent, reactive, factor, volts and amperes.
+//! The figures of the load: power, apparent, reactive, factor, volts and amperes.
 ghost use Rattle.std.specs.Prelude.{◌≡◌};
 ghost use Rattle.figures.specs.Load.{load_volts, power_factor, reactive, totals};
 
-// W, VA, var, the power factor, V and A.
+/// W, VA, var, the power factor, V and A.
 #[derive(Clone, Copy)]
 #[repr(C)]
 pub struct Figures {
@@ -14,8 +14,8 @@ pub struct Figures {
     pub i: f32,
 }
 
-// The volts at the load: v_m and p_m are measured in front of the resistance r, where i flows. A
-// square below zero, or a NaN, counts as zero; of an infinite one the root is a NaN.
+/// The volts at the load: v_m and p_m are measured in front of the resistance r, where i flows. A
+/// square below zero, or a NaN, counts as zero; of an infinite one the root is a NaN.
 pub fn load_volts(v_m: f32, p_m: f32, i: f32, r: f32) -> f32
     ensures { result ≡ load_volts v_m p_m i r }
 {
@@ -41,7 +41,7 @@ fn reactive_power(p: f32, s: f32) -> f32
     numbers::sqrt(numbers::max(s * s - p * p, 0.0))
 }
 
-// The source's `totals`, for every six floats.
+/// The source's `totals`, for every six floats.
 pub fn totals(p_ac: f32, v_ac: f32, v_dc: f32, i_ac: f32, i_dc: f32, r: f32) -> Figures
     ensures { result ≡ totals p_ac v_ac v_dc i_ac i_dc r }
 {

@@ -1,9 +1,9 @@
-// Smoothing: a new value moves the smoothed one by a part of the way, or replaces it.
+//! Smoothing: a new value moves the smoothed one by a part of the way, or replaces it.
 ghost use Rattle.std.specs.Prelude.{◌≡◌};
 ghost use Rattle.figures.specs.Smoothing.{ema, ema_rel};
 
-// The smoothed value after x, y before it: x where it is further than win from y, else the part a of
-// the way from y to x.
+/// The smoothed value after x, y before it: x where it is further than win from y, else the part a of
+/// the way from y to x.
 pub fn ema(win: f32, a: f32, x: f32, y: f32) -> f32
     ensures { result ≡ ema win a x y }
 {
@@ -14,7 +14,7 @@ pub fn ema(win: f32, a: f32, x: f32, y: f32) -> f32
     y + a * d
 }
 
-// ema with a twentieth of the largest of |x|, |y| and floor as win.
+/// ema with a twentieth of the largest of |x|, |y| and floor as win.
 pub fn ema_rel(a: f32, floor: f32, x: f32, y: f32) -> f32
     ensures { result ≡ ema_rel a floor x y }
 {

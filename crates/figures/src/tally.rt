@@ -1,4 +1,4 @@
-// The tally: both energies and the time counted, and the accounting step of one interval.
+//! The tally: both energies and the time counted, and the accounting step of one interval.
 ghost use Rattle.std.specs.Prelude.{◌≡◌};
 ghost use Rattle.figures.specs.Tally.{fresh_tally, energy_step, with_time, accounting_step, Told};
 
@@ -7,7 +7,7 @@ use crate::acc::{Acc, Added, add_to};
 // The greatest time that counts: 2^63 - 1 ms.
 const MOST_TIME: u64 = 9223372036854775807;
 
-// The source's `e`, `va` and `t_int`: active energy in mJ, apparent energy in mVAs, time in ms.
+/// The source's `e`, `va` and `t_int`: active energy in mJ, apparent energy in mVAs, time in ms.
 #[derive(Clone, Copy)]
 #[repr(C)]
 pub struct Tally {
@@ -24,15 +24,15 @@ impl Tally {
     };
 }
 
-// What the accounting step answers: the new tally, with the whole millijoules that its active count
-// gained, for whoever allots active energy; or full, refusal 6.
+/// What the accounting step answers: the new tally, with the whole millijoules that its active count
+/// gained, for whoever allots active energy; or full, refusal 6.
 #[derive(Clone, Copy)]
 pub enum Accounted {
     Counted(Tally, i64),
     Full,
 }
 
-// Nothing counted: `Tally::ZERO`.
+/// Nothing counted: `Tally::ZERO`.
 pub fn fresh() -> Tally
     ensures { result ≡ fresh_tally }
 {
@@ -70,9 +70,9 @@ fn with_time(e: Acc, whole: i64, va: Acc, t_int: u64, dt: u64) -> Accounted
     )
 }
 
-// The accounting step of an interval of dt ms at the power p and the apparent power s; the active
-// energy counts where `active` says so (the source's `!alt || dc`). The whole millijoules told are
-// what the active energy's count gained.
+/// The accounting step of an interval of dt ms at the power p and the apparent power s; the active
+/// energy counts where `active` says so (the source's `!alt || dc`). The whole millijoules told are
+/// what the active energy's count gained.
 pub fn accounting_step(t: Tally, dt: u64, p: f32, s: f32, active: bool) -> Accounted
     ensures is { result ≡ accounting_step t dt p s active }
     ensures told { Told t result }

@@ -1,10 +1,10 @@
-// `energy_format` and `p_format` of the source.
+//! `energy_format` and `p_format` of the source.
 ghost use Rattle.std.specs.Prelude.{◌≡◌, true, false, cond};
 ghost use Rattle.formats.specs.Formats.{decimals_of, scaled, energy_format, range_format, p_format};
 
 use crate::units::Unit;
 
-// A figure in its unit, and how many of its decimals are shown.
+/// A figure in its unit, and how many of its decimals are shown.
 #[derive(Clone, Copy)]
 pub struct Format {
     pub number: f32,
@@ -64,7 +64,7 @@ fn wh_format(wh: f32) -> Format
     }
 }
 
-// The source's `energy_format`: an apparent energy where `va`, else an active one.
+/// The source's `energy_format`: an apparent energy where `va`, else an active one.
 pub fn energy_format(wh: f32, va: bool) -> Format
     ensures { result ≡ energy_format wh va }
 {
@@ -90,7 +90,7 @@ fn unit_of(watts: bool, w: Unit, va: Unit) -> Unit
     if watts { w } else { va }
 }
 
-// The source's `p_format`: a power of si W or VA, in a pair of ranges of fs W or VA full scale.
+/// The source's `p_format`: a power of si W or VA, in a pair of ranges of fs W or VA full scale.
 pub fn p_format(fs: f32, si: f32, watts: bool) -> Format
     ensures { result ≡ p_format fs si watts }
 {

@@ -1,4 +1,4 @@
-// Module 6 of document 01, formats: a figure with its decimals and its unit.
+//! Module 6 of document 01, formats: a figure with its decimals and its unit.
 #![tactic(auto)]
 
 pub mod format;

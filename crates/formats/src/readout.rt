@@ -1,4 +1,4 @@
-// What is shown of a figure: its number, decimals and unit, or that it is over the range.
+//! What is shown of a figure: its number, decimals and unit, or that it is over the range.
 ghost use Rattle.std.specs.Prelude.{◌≡◌};
 ghost use Rattle.formats.specs.Readout.{val_of, over_val, tens, no_neg_zero, shown, shown_unless};
 
@@ -14,7 +14,7 @@ pub struct Val {
 }
 
 impl Val {
-    // A number that is not over.
+    /// A number that is not over.
     pub fn new(number: f32, decimals: u8, unit: Unit) -> Val
         ensures { result ≡ val_of number decimals unit }
     {
@@ -26,7 +26,7 @@ impl Val {
         }
     }
 
-    // Over the range: the number is 0.0.
+    /// Over the range: the number is 0.0.
     pub fn ol(decimals: u8, unit: Unit) -> Val
         ensures { result ≡ over_val decimals unit }
     {
@@ -39,7 +39,7 @@ impl Val {
     }
 }
 
-// Ten to the n by n products, which from 39 on is infinite.
+/// Ten to the n by n products, which from 39 on is infinite.
 pub fn tens(n: u8) -> f32
     ensures { result ≡ tens n }
 {
@@ -52,7 +52,7 @@ pub fn tens(n: u8) -> f32
     s
 }
 
-// Plus zero where x times ten to the dec, rounded to binary32, is below 0.5 in size; else x.
+/// Plus zero where x times ten to the dec, rounded to binary32, is below 0.5 in size; else x.
 pub fn no_neg_zero(x: f32, dec: u8) -> f32
     ensures { result ≡ no_neg_zero x dec }
 {
@@ -63,7 +63,7 @@ pub fn no_neg_zero(x: f32, dec: u8) -> f32
     }
 }
 
-// A figure in its format, as it is shown.
+/// A figure in its format, as it is shown.
 pub fn shown(f: Format) -> Val
     ensures { result ≡ shown f }
 {
@@ -72,7 +72,7 @@ pub fn shown(f: Format) -> Val
     Val::new(number, f.decimals, unit)
 }
 
-// The same, or over.
+/// The same, or over.
 pub fn shown_unless(over: bool, f: Format) -> Val
     ensures { result ≡ shown_unless over f }
 {

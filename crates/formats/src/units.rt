@@ -1,4 +1,4 @@
-// The source's unit strings as numbered units.
+//! The source's unit strings as numbered units.
 ghost use Rattle.std.specs.Prelude.{◌≡◌};
 ghost use Rattle.formats.specs.Units.{unit_number, same_unit};
 
@@ -22,7 +22,7 @@ pub enum Unit {
     Millivolt,
 }
 
-// The number by which a host knows a unit.
+/// The number by which a host knows a unit.
 pub fn unit_number(unit: Unit) -> u8
     ensures { result ≡ unit_number unit }
 {
@@ -46,7 +46,7 @@ pub fn unit_number(unit: Unit) -> u8
     }
 }
 
-// Whether two units are the same.
+/// Whether two units are the same.
 pub fn same_unit(a: Unit, b: Unit) -> bool
     ensures { result ≡ same_unit a b }
 {

@@ -1,10 +1,10 @@
-// One conversion of the ring.
+//! One conversion of the ring.
 ghost use Rattle.std.specs.Prelude.{◌≡◌};
 ghost use Rattle.host.specs.Ring.{conversion};
 
 use state::Ring;
 
-// `struct pw_conversion`: `stat` is R34 in method B, 1 and 2 the alternating voltage and current, 3 and 4 the DC row's.
+/// `struct pw_conversion`: `stat` is R34 in method B, 1 and 2 the alternating voltage and current, 3 and 4 the DC row's.
 #[derive(Clone, Copy)]
 #[repr(C)]
 pub struct HostConversion {
@@ -16,8 +16,8 @@ pub struct HostConversion {
     pub dt: u16,
 }
 
-// The conversion of this age, the latest being of age 0. None is found of an age of 16 or more, and of one
-// of `ring_k` or more.
+/// The conversion of this age, the latest being of age 0. None is found of an age of 16 or more, and of one
+/// of `ring_k` or more.
 pub fn conversion(ring: Ring, age: u8) -> HostConversion
     ensures { result ≡ conversion ring age }
 {

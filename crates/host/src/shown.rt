@@ -1,4 +1,4 @@
-// What a screen shows.
+//! What a screen shows.
 ghost use Rattle.std.specs.Prelude.{◌≡◌};
 ghost use Rattle.host.specs.Shown.{host_vals, host_val, host_readouts, text_only, host_partial};
 
@@ -8,7 +8,7 @@ use readouts::readings::Readouts;
 use values::power_vals::PowerVals;
 use values::vals::Vals;
 
-// `struct pw_vals`
+/// `struct pw_vals`
 #[derive(Clone, Copy)]
 #[repr(C)]
 pub struct HostVals {
@@ -16,7 +16,7 @@ pub struct HostVals {
     pub vals: PowerVals,
 }
 
-// `struct pw_val`: the unit by its number.
+/// `struct pw_val`: the unit by its number.
 #[derive(Clone, Copy)]
 #[repr(C)]
 pub struct HostVal {
@@ -26,7 +26,7 @@ pub struct HostVal {
     pub over: bool,
 }
 
-// What stands for a readout where there is none.
+/// What stands for a readout where there is none.
 pub const NO_VAL: HostVal = HostVal {
     number: 0.0,
     decimals: 0,
@@ -34,7 +34,7 @@ pub const NO_VAL: HostVal = HostVal {
     over: false,
 };
 
-// `struct pw_readouts`
+/// `struct pw_readouts`
 #[derive(Clone, Copy)]
 #[repr(C)]
 pub struct HostReadouts {
@@ -44,7 +44,7 @@ pub struct HostReadouts {
     pub si: f32,
 }
 
-// `struct pw_partial`: the text by its number.
+/// `struct pw_partial`: the text by its number.
 #[derive(Clone, Copy)]
 #[repr(C)]
 pub struct HostPartial {
@@ -53,7 +53,7 @@ pub struct HostPartial {
     pub volts: HostVal,
 }
 
-// The values; `PowerVals::zero` where there are none.
+/// The values; `PowerVals::zero` where there are none.
 pub fn host_vals(answer: Vals) -> HostVals
     ensures { result ≡ host_vals answer }
 {
@@ -72,7 +72,7 @@ pub fn host_vals(answer: Vals) -> HostVals
     }
 }
 
-// One readout, its unit by the number.
+/// One readout, its unit by the number.
 pub fn host_val(v: Val) -> HostVal
     ensures { result ≡ host_val v }
 {
@@ -86,7 +86,7 @@ pub fn host_val(v: Val) -> HostVal
     }
 }
 
-// The readouts of a reading, each unit by its number.
+/// The readouts of a reading, each unit by its number.
 pub fn host_readouts(readouts: Readouts) -> HostReadouts
     ensures { result ≡ host_readouts readouts }
 {
@@ -112,7 +112,7 @@ fn text_only(text: u8) -> HostPartial
     }
 }
 
-// What is shown in place of a reading: the text by its number, and the volts where there are any.
+/// What is shown in place of a reading: the text by its number, and the volts where there are any.
 pub fn host_partial(partial: Partial) -> HostPartial
     ensures { result ≡ host_partial partial }
 {

@@ -1,4 +1,4 @@
-// What a call takes and answers.
+//! What a call takes and answers.
 ghost use Rattle.std.specs.Prelude.{◌≡◌};
 ghost use Rattle.orders.specs.Answer.{refused_with};
 ghost use Rattle.meter.specs.Frame.{frame_done};
@@ -13,7 +13,7 @@ use refusals::{Refusal, number};
 use state::{Pw, Ranges, Stamp};
 use values::power_vals::{Energies, InForce, Limits, PowerVals, Split};
 
-// `struct pw_reading`
+/// `struct pw_reading`
 #[derive(Clone, Copy)]
 #[repr(C)]
 pub struct HostReading {
@@ -21,14 +21,14 @@ pub struct HostReading {
     pub vals: PowerVals,
 }
 
-// A reading, and whether there is one; where there is none every number is 0 and every mark no.
+/// A reading, and whether there is one; where there is none every number is 0 and every mark no.
 #[derive(Clone, Copy)]
 pub struct HostRead {
     pub has_reading: bool,
     pub reading: HostReading,
 }
 
-// `struct pw_answer`: the refusal by its number.
+/// `struct pw_answer`: the refusal by its number.
 #[derive(Clone, Copy)]
 #[repr(C)]
 pub struct HostAnswer {
@@ -39,7 +39,7 @@ pub struct HostAnswer {
     pub reading: HostReading,
 }
 
-// `struct pw_step`
+/// `struct pw_step`
 #[derive(Clone, Copy)]
 #[repr(C)]
 pub struct HostStep {
@@ -47,7 +47,7 @@ pub struct HostStep {
     pub answer: HostAnswer,
 }
 
-// `struct pw_made`
+/// `struct pw_made`
 #[derive(Clone, Copy)]
 #[repr(C)]
 pub struct HostMade {
@@ -114,8 +114,8 @@ const NO_READING: HostReading = HostReading {
     },
 };
 
-// What a number asks of a range: below 256 that range, 256 (PW_AUTO) that it be found by itself, any
-// other nothing (PW_KEEP is 257).
+/// What a number asks of a range: below 256 that range, 256 (PW_AUTO) that it be found by itself, any
+/// other nothing (PW_KEEP is 257).
 pub fn ask_of(asked: u16) -> Ask
     ensures { result ≡ ask_of asked }
 {
@@ -146,7 +146,7 @@ fn host_read(reading: Reading) -> HostRead
     }
 }
 
-// A refused call: its number alone.
+/// A refused call: its number alone.
 pub fn host_refused(told: Refusal, meter: Pw) -> HostStep
     ensures { result ≡ host_step (refused_with told meter) }
 {
@@ -163,7 +163,7 @@ pub fn host_refused(told: Refusal, meter: Pw) -> HostStep
     }
 }
 
-// A frame that is done.
+/// A frame that is done.
 pub fn host_done(meter: Pw, mark: Stamp, used: u8, shown: Reading) -> HostStep
     ensures { result ≡ host_step (frame_done meter mark used shown) }
 {
@@ -181,7 +181,7 @@ pub fn host_done(meter: Pw, mark: Stamp, used: u8, shown: Reading) -> HostStep
     }
 }
 
-// A call's step: the meter after it, and its answer with the refusal by its number.
+/// A call's step: the meter after it, and its answer with the refusal by its number.
 pub fn host_step(step: Step) -> HostStep
     ensures { result ≡ host_step step }
 {
@@ -205,7 +205,7 @@ pub fn host_step(step: Step) -> HostStep
     }
 }
 
-// What the making of a meter answers, with the refusal by its number.
+/// What the making of a meter answers, with the refusal by its number.
 pub fn host_made(made: Made) -> HostMade
     ensures { result ≡ host_made made }
 {

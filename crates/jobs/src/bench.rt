@@ -1,4 +1,4 @@
-// A job's beginning, the beginning of each of its steps, and its end.
+//! A job's beginning, the beginning of each of its steps, and its end.
 ghost use Rattle.std.specs.Prelude.{◌≡◌};
 ghost use Rattle.jobs.specs.Bench.{kind_in, place_in, ended, ended_if_any, step_at, next, begun, turned_away};
 
@@ -8,8 +8,8 @@ use steps::place::{
 };
 use tables::constants::{JR_METHOD, JR_RUN};
 
-// The part of a meter that a job works on: all that a job may change, but `cal` (by its start) and
-// `t_poll` (by a frame).
+/// The part of a meter that a job works on: all that a job may change, but `cal` (by its start) and
+/// `t_poll` (by a frame).
 #[derive(Clone, Copy)]
 #[repr(C)]
 pub struct Bench {
@@ -20,7 +20,7 @@ pub struct Bench {
     pub job: Job,
 }
 
-// What a call leaves of it; a mark is set exactly where a step begins.
+/// What a call leaves of it; a mark is set exactly where a step begins.
 #[derive(Clone, Copy)]
 #[repr(C)]
 pub struct Served {
@@ -28,22 +28,22 @@ pub struct Served {
     pub mark: Stamp,
 }
 
-// The running job's kind.
+/// The running job's kind.
 pub(crate) fn kind_in(job: Job) -> Kind
     ensures { result ≡ kind_in job }
 {
     kind_of(job.job)
 }
 
-// What the running job's step measures.
+/// What the running job's step measures.
 pub(crate) fn place_in(job: Job) -> Place
     ensures { result ≡ place_in job }
 {
     place_of(kind_in(job), job.job_dc, job.job_step)
 }
 
-// The running job ends: the ranges and automatic marks found at its start come back, and the host is
-// to re-apply if the meter is on. What is stored of zeros and gains stays.
+/// The running job ends: the ranges and automatic marks found at its start come back, and the host is
+/// to re-apply if the meter is on. What is stored of zeros and gains stays.
 pub(crate) fn end_with(res: u8, before: Bench) -> Bench
     ensures { result ≡ ended res before }
 {
@@ -60,7 +60,7 @@ pub(crate) fn end_with(res: u8, before: Bench) -> Bench
     after
 }
 
-// The same where a job runs; else nothing changes.
+/// The same where a job runs; else nothing changes.
 pub(crate) fn end_if_any(res: u8, before: Bench) -> Bench
     ensures { result ≡ ended_if_any res before }
 {
@@ -71,8 +71,8 @@ pub(crate) fn end_if_any(res: u8, before: Bench) -> Bench
     end_with(res, before)
 }
 
-// Step `step` begins: nothing is counted yet, some ready frames are to be dropped, and the host writes
-// the row and goes on at the deadline.
+/// Step `step` begins: nothing is counted yet, some ready frames are to be dropped, and the host writes
+/// the row and goes on at the deadline.
 pub(crate) fn step_at(now: u64, step: u8, before: Bench) -> Served
     ensures { result ≡ step_at now step before }
 {
@@ -98,7 +98,7 @@ pub(crate) fn step_at(now: u64, step: u8, before: Bench) -> Served
     }
 }
 
-// The step after the one that is done begins.
+/// The step after the one that is done begins.
 pub(crate) fn next(now: u64, before: Bench) -> Served
     ensures { result ≡ next now before }
 {
@@ -106,7 +106,7 @@ pub(crate) fn next(now: u64, before: Bench) -> Served
     step_at(now, count_up(job.job_step), before)
 }
 
-// A job begins: what it finds is noted, and step 0 begins.
+/// A job begins: what it finds is noted, and step 0 begins.
 pub(crate) fn begin(now: u64, kind: Kind, before: Bench) -> Served
     ensures { result ≡ begun now kind before }
 {
@@ -129,7 +129,7 @@ pub(crate) fn begin(now: u64, kind: Kind, before: Bench) -> Served
     step_at(now, 0, after)
 }
 
-// A start that the alternating method refuses.
+/// A start that the alternating method refuses.
 pub(crate) fn turned_away(kind: Kind, before: Job) -> Job
     ensures { result ≡ turned_away kind before }
 {

@@ -1,4 +1,4 @@
-// A frame in a job.
+//! A frame in a job.
 ghost use Rattle.std.specs.Prelude.{◌≡◌};
 ghost use Rattle.jobs.specs.Frame.{counted, served_by, served, job_frame};
 
@@ -67,7 +67,7 @@ fn serve(now: u64, calibration: Calibration, codes: Codes, before: Bench) -> Ser
     serve_by(now, signal, reading, before)
 }
 
-// A frame in a job; one that is not ready changes nothing.
+/// A frame in a job; one that is not ready changes nothing.
 pub(crate) fn job_frame(
     now: u64,
     calibration: Calibration,

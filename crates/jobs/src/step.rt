@@ -1,4 +1,4 @@
-// What a step's two means do to the job.
+//! What a step's two means do to the job.
 ghost use Rattle.std.specs.Prelude.{◌≡◌, ◌/◌};
 ghost use Rattle.tables.specs.Bounds.{at_most};
 ghost use Rattle.jobs.specs.Step.{ended_unmarked, zero_done, by_raw, raw_done, by_gain, judged, ref_done, gain_done, step_done};
@@ -12,7 +12,7 @@ use steps::verdict::{
 use tables::bounds::at_most;
 use tables::constants::{JR_BIG, JR_OK, JR_RANGE, JR_SMALL, JR_UNSTABLE};
 
-// The job has ended so, with no mark.
+/// The job has ended so, with no mark.
 pub(crate) fn end_unmarked(res: u8, before: Bench) -> Served
     ensures { result ≡ ended_unmarked res before }
 {
@@ -150,7 +150,7 @@ fn gain_done(now: u64, a: f32, b: f32, before: Bench) -> Served
     ref_done(now, a, before)
 }
 
-// A step is done, with the means a of the main values and b of the second ones.
+/// A step is done, with the means a of the main values and b of the second ones.
 pub(crate) fn step_done(now: u64, kind: Kind, a: f32, b: f32, before: Bench) -> Served
     ensures { result ≡ step_done now kind a b before }
 {

@@ -1,4 +1,4 @@
-// The jobs on a whole meter. Whether a call is refused is module 7's part.
+//! The jobs on a whole meter. Whether a call is refused is module 7's part.
 ghost use Rattle.std.specs.Prelude.{◌≡◌};
 ghost use Rattle.jobs.specs.Whole.{bench_in, with_bench, job_started, job_turned_away, job_ended, job_polled};
 
@@ -9,7 +9,7 @@ use phase::cal_off;
 use state::{Pw, Stamp};
 use steps::place::Kind;
 
-// What a job's start leaves, and the mark to the host.
+/// What a job's start leaves, and the mark to the host.
 #[derive(Clone, Copy)]
 #[repr(C)]
 pub struct Started {
@@ -17,7 +17,7 @@ pub struct Started {
     pub mark: Stamp,
 }
 
-// What a frame in a job leaves, its mark, and the ready frames that the job has used.
+/// What a frame in a job leaves, its mark, and the ready frames that the job has used.
 #[derive(Clone, Copy)]
 #[repr(C)]
 pub struct Polled {
@@ -62,7 +62,7 @@ fn with_bench(before: Pw, bench: Bench) -> Pw
     after
 }
 
-// A job starts, a phase calibration stops.
+/// A job starts, a phase calibration stops.
 pub fn job_start(before: Pw, kind: Kind, now: u64) -> Started
     ensures { result ≡ job_started before kind now }
 {
@@ -74,7 +74,7 @@ pub fn job_start(before: Pw, kind: Kind, now: u64) -> Started
     Started { pw: after, mark }
 }
 
-// A job's start that is refused with 3.
+/// A job's start that is refused with 3.
 pub fn job_turned_away(before: Pw, kind: Kind) -> Pw
     ensures { result ≡ job_turned_away before kind }
 {
@@ -84,14 +84,14 @@ pub fn job_turned_away(before: Pw, kind: Kind) -> Pw
     after
 }
 
-// The running job ends with this result; where none runs nothing changes.
+/// The running job ends with this result; where none runs nothing changes.
 pub fn job_end(before: Pw, res: u8) -> Pw
     ensures { result ≡ job_ended before res }
 {
     with_bench(before, end_if_any(res, bench_in(before)))
 }
 
-// A frame in a job. (Where none runs, it is taken as a gain job's; module 7 calls it only in a job.)
+/// A frame in a job. (Where none runs, it is taken as a gain job's; module 7 calls it only in a job.)
 pub fn job_poll(before: Pw, now: u64, flags: u8, codes: Codes) -> Polled
     ensures { result ≡ job_polled before now flags codes }
 {

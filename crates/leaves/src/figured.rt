@@ -1,4 +1,4 @@
-// The leaf functions of module 3. The accumulator's lent add and its watt hours are in libpw.a.
+//! The leaf functions of module 3. The accumulator's lent add and its watt hours are in libpw.a.
 ghost use Rattle.std.specs.Prelude.{◌≡◌};
 ghost use Rattle.figures.specs.Load.{totals};
 ghost use Rattle.figures.specs.Smoothing.{ema, ema_rel};
@@ -11,7 +11,7 @@ use figures::load::Figures;
 use figures::tally::{Accounted, Tally};
 use refusals::Refusal;
 
-// `struct leaf_added`
+/// `struct leaf_added`
 #[derive(Clone, Copy)]
 #[repr(C)]
 pub struct NumberedSum {
@@ -20,7 +20,7 @@ pub struct NumberedSum {
     pub whole: i64,
 }
 
-// `struct leaf_accounted`
+/// `struct leaf_accounted`
 #[derive(Clone, Copy)]
 #[repr(C)]
 pub struct NumberedTally {

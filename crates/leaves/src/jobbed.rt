@@ -1,4 +1,4 @@
-// The leaf functions of module 5: the phase calibration, and the jobs on a whole meter.
+//! The leaf functions of module 5: the phase calibration, and the jobs on a whole meter.
 ghost use Rattle.std.specs.Prelude.{◌≡◌};
 ghost use Rattle.steps.specs.Place.{kind_of};
 ghost use Rattle.phase.specs.Phase.{cal_outcome, cal_started, cal_accounted};
@@ -10,7 +10,7 @@ use jobs::whole::{Polled, Started};
 use phase::PhaseStep;
 use state::{PhaseCal, Pw};
 
-// `struct leaf_cal_outcome`
+/// `struct leaf_cal_outcome`
 #[derive(Clone, Copy)]
 #[repr(C)]
 pub struct HostOutcome {

@@ -1,6 +1,6 @@
-// The leaf functions as C functions, built as libleaves.a: only for the programs that compare them
-// with the published Rust (the root with what was decided for dmm.rs) and with the C compiler's
-// arithmetic. A host needs none of them.
+//! The leaf functions as C functions, built as libleaves.a: only for the programs that compare them
+//! with the published Rust (the root with what was decided for dmm.rs) and with the C compiler's
+//! arithmetic. A host needs none of them.
 #![tactic(auto)]
 
 ghost use Rattle.std.specs.Prelude.{◌≡◌, pos};

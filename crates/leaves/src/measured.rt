@@ -1,4 +1,4 @@
-// The leaf functions of module 4, on a whole meter.
+//! The leaf functions of module 4, on a whole meter.
 ghost use Rattle.std.specs.Prelude.{◌≡◌};
 ghost use Rattle.state.specs.Fresh.{new_pw};
 ghost use Rattle.paths.specs.Frame.{frame};
@@ -12,7 +12,7 @@ use state::{Pw, Stamp};
 use tables::calibration::Calibration;
 use tables::description::Description;
 
-// `struct leaf_outcome`
+/// `struct leaf_outcome`
 #[derive(Clone, Copy)]
 #[repr(C)]
 pub struct MeasuredPw {

@@ -1,7 +1,7 @@
-// A meter in which every value has a number of its own, and the test of it: with these two a C program
-// finds out that it and the library read and write each value of a meter at the same place. The numbers
-// are 1, 2, 3 and so on in the order of declaration, 128 as a signed byte being -128; the bools are yes and
-// no in turn.
+//! A meter in which every value has a number of its own, and the test of it: with these two a C program
+//! finds out that it and the library read and write each value of a meter at the same place. The numbers
+//! are 1, 2, 3 and so on in the order of declaration, 128 as a signed byte being -128; the bools are yes and
+//! no in turn.
 ghost use Rattle.std.specs.Prelude.{◌≡◌};
 ghost use Rattle.leaves.specs.Numbered.{numbered_meter, is_description, is_calibration, is_mode, is_ranges, is_cycle, is_parts, is_powers, is_tally, is_clock, is_over_t0, is_settings, is_phase_cal, is_corrections, is_job_steps, is_job_rest, is_comparator, is_ring_marks, is_ring_codes, is_ring_times, is_front, is_back, is_numbered};
 

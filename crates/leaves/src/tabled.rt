@@ -1,4 +1,4 @@
-// The leaf functions of module 2.
+//! The leaf functions of module 2.
 ghost use Rattle.std.specs.Prelude.{◌≡◌};
 ghost use Rattle.std.specs.Float.{nan};
 ghost use Rattle.refusals.specs.Number.{refusal_number};
@@ -14,7 +14,7 @@ ghost use Rattle.leaves.specs.Host.{iu_ir_pair, numbered};
 use tables::calibration::Calibration;
 use tables::description::Description;
 
-// `struct leaf_iu_ir`
+/// `struct leaf_iu_ir`
 #[derive(Clone, Copy)]
 #[repr(C)]
 pub struct IuIrPair {
@@ -22,7 +22,7 @@ pub struct IuIrPair {
     pub ir: u8,
 }
 
-// `struct leaf_calibration_answer`
+/// `struct leaf_calibration_answer`
 #[derive(Clone, Copy)]
 #[repr(C)]
 pub struct NumberedCalibration {
@@ -30,7 +30,7 @@ pub struct NumberedCalibration {
     pub calibration: Calibration,
 }
 
-// `struct leaf_gains`
+/// `struct leaf_gains`
 #[derive(Clone, Copy)]
 #[repr(C)]
 pub struct Gains {

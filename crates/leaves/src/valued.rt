@@ -1,4 +1,4 @@
-// The leaf functions of module 6 that libpw.a does not have.
+//! The leaf functions of module 6 that libpw.a does not have.
 ghost use Rattle.std.specs.Prelude.{◌≡◌};
 ghost use Rattle.formats.specs.Readout.{no_neg_zero};
 ghost use Rattle.values.specs.PowerVals.{zero_vals};

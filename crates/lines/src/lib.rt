@@ -1,11 +1,11 @@
-// A line of document 01's `pwline`: what it spells, or that it is of another spelling.
+//! A line of document 01's `pwline`: what it spells, or that it is of another spelling.
 #![tactic(auto)]
 
 ghost use Rattle.std.specs.Prelude.{◌≡◌, true, [], ◌∷◌, ◌≤◌, ◌<◌, length};
 ghost use Rattle.lines.specs.Digits.{digit_of, all_digits, number_of, bytes_of};
 ghost use Rattle.lines.specs.Spelling.{space_at, item_of, rest_of, same_item, is_time, is_flags, is_frame, timed_line, padded, poll_line, form_of, line_of};
 
-// What a line asks for.
+/// What a line asks for.
 #[derive(Clone, Copy)]
 pub enum Kind {
     On,
@@ -14,7 +14,7 @@ pub enum Kind {
     Other,
 }
 
-// A line as read. The bytes of a frame are the first `count` of `bytes`; what a kind has not is 0.
+/// A line as read. The bytes of a frame are the first `count` of `bytes`; what a kind has not is 0.
 #[derive(Clone, Copy)]
 pub struct Line {
     pub kind: Kind,
@@ -25,7 +25,7 @@ pub struct Line {
 }
 
 impl Line {
-    // A line of another spelling.
+    /// A line of another spelling.
     pub const OTHER: Line = Line {
         kind: Kind::Other,
         time: 0,
@@ -262,7 +262,7 @@ fn form(s: &[u8]) -> Line
     Line::OTHER
 }
 
-// A line of any length, without its line feed.
+/// A line of any length, without its line feed.
 pub fn parse(line: &[u8]) -> Line
     ensures { result ≡ line_of line.now }
 {

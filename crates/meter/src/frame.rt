@@ -1,5 +1,5 @@
-// The frame call: refusals, then a frame in a job, or one that is measured, and accounted where it gives a
-// reading.
+//! The frame call: refusals, then a frame in a job, or one that is measured, and accounted where it gives a
+//! reading.
 ghost use Rattle.std.specs.Prelude.{◌≡◌};
 ghost use Rattle.paths.specs.Whole.{with_measuring};
 ghost use Rattle.accounting.specs.Divided.{with_ledger};
@@ -27,8 +27,8 @@ struct Entered {
     reading: Reading,
 }
 
-// What a frame outside a job comes to: what its path and its accounting change, the mark, the reading, whether
-// an AD1 result was taken; or full, and then the meter is the one before, and nothing else here is of account.
+/// What a frame outside a job comes to: what its path and its accounting change, the mark, the reading, whether
+/// an AD1 result was taken; or full, and then the meter is the one before, and nothing else here is of account.
 #[derive(Clone, Copy)]
 pub struct Measurement {
     pub measuring: Measuring,
@@ -166,7 +166,7 @@ fn with_frame(before: Pw, measuring: Measuring, ledger: Ledger, ring: Ring) -> P
     after
 }
 
-// A frame outside a job up to where the meter is put together.
+/// A frame outside a job up to where the meter is put together.
 pub fn measure(before: Pw, time: u64, flags: u8, codes: Codes) -> Measurement
     ensures { result ≡ measurement before time flags codes }
 {
@@ -190,7 +190,7 @@ pub fn measure(before: Pw, time: u64, flags: u8, codes: Codes) -> Measurement
     }
 }
 
-// The meter after it, where it is not full, with what the ring notes.
+/// The meter after it, where it is not full, with what the ring notes.
 pub fn after_measurement(before: Pw, time: u64, flags: u8, codes: Codes, made: Measurement) -> Pw
     ensures { result ≡ after_measurement before time flags codes made }
 {
@@ -246,7 +246,7 @@ fn in_job(before: Pw, time: u64, flags: u8, codes: Codes) -> Step
     }
 }
 
-// What becomes of a frame: it is refused, serves a job, or is measured outside of one.
+/// What becomes of a frame: it is refused, serves a job, or is measured outside of one.
 #[derive(Clone, Copy)]
 pub enum Opened {
     Turned(Refusal),
@@ -267,7 +267,7 @@ fn open_with(on: bool, job: u8, codes: Codes) -> Opened
     Opened::Outside(codes)
 }
 
-// A frame of these bytes, which are lent and only read, by whether the meter is on and its job.
+/// A frame of these bytes, which are lent and only read, by whether the meter is on and its job.
 pub fn open_frame(on: bool, job: u8, time: u64, bytes: &[u8]) -> Opened
     ensures { result ≡ open_frame on job time bytes.now }
 {
@@ -281,7 +281,7 @@ pub fn open_frame(on: bool, job: u8, time: u64, bytes: &[u8]) -> Opened
     }
 }
 
-// A frame of the flags and these bytes, which are lent and only read.
+/// A frame of the flags and these bytes, which are lent and only read.
 pub fn poll(before: Pw, time: u64, flags: u8, bytes: &[u8]) -> Step
     ensures { result ≡ poll before time flags bytes.now }
 {

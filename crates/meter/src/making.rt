@@ -1,4 +1,4 @@
-// A meter is made of a description and calibration words.
+//! A meter is made of a description and calibration words.
 ghost use Rattle.std.specs.Prelude.{◌≡◌};
 ghost use Rattle.meter.specs.Making.{plain_description, not_made, make};
 
@@ -7,15 +7,15 @@ use state::Pw;
 use tables::calibration::{Calibration, calibration_of};
 use tables::description::{Description, description_refusal};
 
-// Refusal 7 or 8; or done, with the meter. Where it is refused no meter is made, and a plain one that is off stands
-// in its place: a description of 1.0 throughout, and no valid word.
+/// Refusal 7 or 8; or done, with the meter. Where it is refused no meter is made, and a plain one that is off stands
+/// in its place: a description of 1.0 throughout, and no valid word.
 #[derive(Clone, Copy)]
 pub struct Made {
     pub refusal: Refusal,
     pub pw: Pw,
 }
 
-// Six numbers of 1.0, and `a_auto` no: `pwline`'s description.
+/// Six numbers of 1.0, and `a_auto` no: `pwline`'s description.
 pub fn plain_description() -> Description
     ensures { result ≡ plain_description }
 {
@@ -38,7 +38,7 @@ fn not_made(refusal: Refusal) -> Made
     Made { refusal, pw }
 }
 
-// The description is tested before the words, which are lent and only read.
+/// The description is tested before the words, which are lent and only read.
 pub fn make(description: Description, words: &[u32], valid: bool) -> Made
     ensures { result ≡ make description words.now valid }
 {

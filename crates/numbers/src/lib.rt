@@ -1,6 +1,6 @@
-// Module 1 of document 01, numbers: what the source takes from Rust's f32 and from dmm.rs, worked
-// out from bits. Every public function is total, and its contract is one equation with a definition
-// of specs/ or of std's IEEE 754, where one type of values serves both formats.
+//! Module 1 of document 01, numbers: what the source takes from Rust's f32 and from dmm.rs, worked
+//! out from bits. Every public function is total, and its contract is one equation with a definition
+//! of specs/ or of std's IEEE 754, where one type of values serves both formats.
 #![tactic(auto)]
 
 ghost use Rattle.std.specs.Prelude.{◌≡◌, ◌^◌, ◌<◌, ◌≤◌, pos, from_bits};
@@ -12,7 +12,7 @@ ghost use Rattle.numbers.specs.Root.{heron, sqrt_of, hypot_of};
 
 // ---- Rust's methods of f32
 
-// No NaN and no infinity.
+/// No NaN and no infinity.
 pub fn is_finite(x: f32) -> bool
     ensures { result ≡ is_finite x }
 {
@@ -20,15 +20,15 @@ pub fn is_finite(x: f32) -> bool
     if x < infinity { -infinity < x } else { false }
 }
 
-// A NaN.
+/// A NaN.
 pub fn nan() -> f32
     ensures { result ≡ nan }
 {
     0.0 / 0.0
 }
 
-// The size of x with a plus sign; a NaN stays a NaN. (A NaN has no bits of its own here, so it is
-// told apart first, in this function and in the others that look at bits.)
+/// The size of x with a plus sign; a NaN stays a NaN. (A NaN has no bits of its own here, so it is
+/// told apart first, in this function and in the others that look at bits.)
 pub fn abs(x: f32) -> f32
     ensures { result ≡ abs_of x }
 {
@@ -38,8 +38,8 @@ pub fn abs(x: f32) -> f32
     f32::from_bits(f32::to_bits(x) & 0x7fff_ffff)
 }
 
-// The larger; of a NaN and a number the number; of two NaNs a NaN; of two zeros of unlike sign plus
-// zero.
+/// The larger; of a NaN and a number the number; of two NaNs a NaN; of two zeros of unlike sign plus
+/// zero.
 pub fn max(a: f32, b: f32) -> f32
     ensures { result ≡ max_of a b }
 {
@@ -58,7 +58,7 @@ pub fn max(a: f32, b: f32) -> f32
     if f32::to_bits(a) >= 0x8000_0000 { b } else { a }
 }
 
-// 1.0 or minus 1.0 by the sign, of a zero too; a NaN stays.
+/// 1.0 or minus 1.0 by the sign, of a zero too; a NaN stays.
 pub fn signum(x: f32) -> f32
     ensures { result ≡ signum_of x }
 {
@@ -72,7 +72,7 @@ pub fn signum(x: f32) -> f32
     }
 }
 
-// x held to lo..hi; a NaN stays. Where hi is below lo, what is below lo gives lo.
+/// x held to lo..hi; a NaN stays. Where hi is below lo, what is below lo gives lo.
 pub fn clamp(x: f32, lo: f32, hi: f32) -> f32
     ensures { result ≡ clamp_of x lo hi }
 {
@@ -103,8 +103,8 @@ fn rounded_quotient(n: u64, u: u64) -> u64
     q + q % 2
 }
 
-// Rust's n as f32. The leading zeros tell how many digits n has, and so the exponent: up to 24
-// digits are moved up until the first stands in front; of more, the lowest k are rounded away.
+/// Rust's n as f32. The leading zeros tell how many digits n has, and so the exponent: up to 24
+/// digits are moved up until the first stands in front; of more, the lowest k are rounded away.
 pub fn u64_to_f32(n: u64) -> f32
     ensures { result ≡ of_int binary32 (pos n) }
 {
@@ -121,8 +121,8 @@ pub fn u64_to_f32(n: u64) -> f32
     f32::from_bits((149 + k) * 8388608 + (m as u32))
 }
 
-// Rust's n as f32. The least n has no i64 of its size, so one is added before the sign turns, and
-// after.
+/// Rust's n as f32. The least n has no i64 of its size, so one is added before the sign turns, and
+/// after.
 pub fn i64_to_f32(n: i64) -> f32
     ensures { result ≡ of_int binary32 n }
 {
@@ -133,7 +133,7 @@ pub fn i64_to_f32(n: i64) -> f32
     }
 }
 
-// Rust's n as f64.
+/// Rust's n as f64.
 pub fn i64_to_f64(n: i64) -> f64
     ensures { result ≡ of_int binary64 n }
 {
@@ -161,35 +161,35 @@ fn cut(x: f32, h: u32) -> i64
     std::num::truncating_f32_to_i64(x)
 }
 
-// Rust's x as i64.
+/// Rust's x as i64.
 pub fn f32_to_i64(x: f32) -> i64
     ensures { result ≡ to_signed 63 x }
 {
     cut(x, 63)
 }
 
-// Rust's x as i32.
+/// Rust's x as i32.
 pub fn f32_to_i32(x: f32) -> i32
     ensures { result ≡ to_signed 31 x }
 {
     cut(x, 31) as i32
 }
 
-// Rust's x as i16; so is the source's cut to an i32 that is then held to 16 bits.
+/// Rust's x as i16; so is the source's cut to an i32 that is then held to 16 bits.
 pub fn f32_to_i16(x: f32) -> i16
     ensures { result ≡ to_signed 15 x }
 {
     cut(x, 15) as i16
 }
 
-// Rust's x as i8.
+/// Rust's x as i8.
 pub fn f32_to_i8(x: f32) -> i8
     ensures { result ≡ to_signed 7 x }
 {
     cut(x, 7) as i8
 }
 
-// Half further from zero: cut, it is a rounded half away from zero.
+/// Half further from zero: cut, it is a rounded half away from zero.
 pub fn half_away(a: f32) -> f32
     ensures { result ≡ half_away a }
 {
@@ -222,7 +222,7 @@ fn narrow_pattern(b: u64) -> u32
     0
 }
 
-// Rust's x as f32.
+/// Rust's x as f32.
 pub fn f64_to_f32(x: f64) -> f32
     ensures { result ≡ narrow x }
 {
@@ -236,7 +236,7 @@ pub fn f64_to_f32(x: f64) -> f32
     f32::from_bits(narrow_pattern(b))
 }
 
-// Rust's x as f64, which holds every f32.
+/// Rust's x as f64, which holds every f32.
 pub fn f32_to_f64(x: f32) -> f64
     ensures { result ≡ x }
 {
@@ -252,8 +252,8 @@ fn heron_step(x: f32, y: f32) -> f32
     0.5 * (y + x / y)
 }
 
-// Not IEEE 754's square root: four steps from a seed. Zero and below give plus zero; of infinity it
-// is a NaN. Of a subnormal x four steps do not reach the root.
+/// Not IEEE 754's square root: four steps from a seed. Zero and below give plus zero; of infinity it
+/// is a NaN. Of a subnormal x four steps do not reach the root.
 pub fn sqrt(x: f32) -> f32
     ensures { result ≡ sqrt_of x }
 {
@@ -270,7 +270,7 @@ pub fn sqrt(x: f32) -> f32
     heron_step(x, y3)
 }
 
-// The root of a * a + b * b.
+/// The root of a * a + b * b.
 pub fn hypot(a: f32, b: f32) -> f32
     ensures { result ≡ hypot_of a b }
 {

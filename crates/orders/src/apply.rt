@@ -1,4 +1,4 @@
-// What several orders do: an apply on a whole meter, and the end of a running job before an order acts.
+//! What several orders do: an apply on a whole meter, and the end of a running job before an order acts.
 ghost use Rattle.std.specs.Prelude.{◌≡◌};
 ghost use Rattle.orders.specs.Apply.{applied, applied_if_on, aborted};
 
@@ -8,7 +8,7 @@ use ranging::apply::{Keep, apply};
 use state::{Pw, Stamp};
 use tables::constants::JR_ABORT;
 
-// The source's `pw_apply`: the host writes the row at once, and goes on at the deadline.
+/// The source's `pw_apply`: the host writes the row at once, and goes on at the deadline.
 pub(crate) fn applied(keep: Keep, before: Pw, time: u64) -> Step
     ensures { result ≡ applied keep before time }
 {
@@ -29,7 +29,7 @@ pub(crate) fn applied(keep: Keep, before: Pw, time: u64) -> Step
     marked(after, Stamp { set: true, at })
 }
 
-// An apply with nothing kept, while on.
+/// An apply with nothing kept, while on.
 pub(crate) fn applied_if_on(before: Pw, time: u64) -> Step
     ensures { result ≡ applied_if_on before time }
 {
@@ -39,7 +39,7 @@ pub(crate) fn applied_if_on(before: Pw, time: u64) -> Step
     done(before)
 }
 
-// A job that runs ends with JR_ABORT: its ranges and automatic marks are put back before the order acts.
+/// A job that runs ends with JR_ABORT: its ranges and automatic marks are put back before the order acts.
 pub(crate) fn aborted(before: Pw) -> Pw
     ensures { result ≡ aborted before }
 {

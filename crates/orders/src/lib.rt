@@ -1,5 +1,5 @@
-// Module 7 of document 01, the orders: each takes a meter and gives it back, with its answer. A refused
-// one says its number alone.
+//! Module 7 of document 01, the orders: each takes a meter and gives it back, with its answer. A refused
+//! one says its number alone.
 #![tactic(auto)]
 
 pub mod answer;

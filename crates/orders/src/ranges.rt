@@ -1,4 +1,4 @@
-// The order `ranges`.
+//! The order `ranges`.
 ghost use Rattle.std.specs.Prelude.{◌≡◌};
 ghost use Rattle.orders.specs.Ranges.{v_asked, i_asked, barred_asked, same_ranges, keep_of, ranges_set, set_ranges};
 
@@ -9,7 +9,7 @@ use refusals::Refusal;
 use state::{Pw, Ranges};
 use tables::bounds::at_most;
 
-// What is asked of one channel: nothing, that its range be found by itself, or a range.
+/// What is asked of one channel: nothing, that its range be found by itself, or a range.
 #[derive(Clone, Copy)]
 pub enum Ask {
     Stay,
@@ -113,7 +113,7 @@ fn ranges_set(before: Pw, time: u64, v: Ask, i: Ask) -> Step
     applied(keep_of(found, ranges), after, time)
 }
 
-// What is asked of each range: a running job ends first, also where nothing is asked.
+/// What is asked of each range: a running job ends first, also where nothing is asked.
 pub fn set_ranges(before: Pw, time: u64, v: Ask, i: Ask) -> Step
     ensures { result ≡ set_ranges before time v i }
 {

@@ -1,4 +1,4 @@
-// The orders that start something: zero job, gain job, phase start; energy reset, run and settings.
+//! The orders that start something: zero job, gain job, phase start; energy reset, run and settings.
 ghost use Rattle.std.specs.Prelude.{◌≡◌};
 ghost use Rattle.steps.specs.declared.place.Kind.TheVariants.{Zero, Gain};
 ghost use Rattle.orders.specs.Starts.{start_job, phase_start, energy_reset, set_run, set_settings};
@@ -33,21 +33,21 @@ fn start_job(before: Pw, time: u64, kind: Kind) -> Step
     marked(after, mark)
 }
 
-// The job that finds the zeros.
+/// The job that finds the zeros.
 pub fn zero_job(before: Pw, time: u64) -> Step
     ensures { result ≡ start_job before time Zero }
 {
     start_job(before, time, Kind::Zero)
 }
 
-// The job that finds the gain of the V range in force.
+/// The job that finds the gain of the V range in force.
 pub fn gain_job(before: Pw, time: u64) -> Step
     ensures { result ≡ start_job before time Gain }
 {
     start_job(before, time, Kind::Gain)
 }
 
-// The start of a phase calibration, in a job too.
+/// The start of a phase calibration, in a job too.
 pub fn phase_start(before: Pw) -> Step
     ensures { result ≡ phase_start before }
 {
@@ -66,7 +66,7 @@ pub fn phase_start(before: Pw) -> Step
     done(after)
 }
 
-// Energies and counted time begin anew, and the next interval with the next accounted frame.
+/// Energies and counted time begin anew, and the next interval with the next accounted frame.
 pub fn energy_reset(before: Pw) -> Step
     ensures { result ≡ energy_reset before }
 {
@@ -80,7 +80,7 @@ pub fn energy_reset(before: Pw) -> Step
     done(after)
 }
 
-// Whether energy is counted.
+/// Whether energy is counted.
 pub fn set_run(before: Pw, run: bool) -> Step
     ensures { result ≡ set_run before run }
 {
@@ -89,7 +89,7 @@ pub fn set_run(before: Pw, run: bool) -> Step
     done(after)
 }
 
-// The order `settings`: all five fields, of any bits, on or off, in a job too.
+/// The order `settings`: all five fields, of any bits, on or off, in a job too.
 pub fn set_settings(before: Pw, settings: Settings) -> Step
     ensures { result ≡ set_settings before settings }
 {

@@ -1,4 +1,4 @@
-// The orders on, off, method, coupling and re-apply.
+//! The orders on, off, method, coupling and re-apply.
 ghost use Rattle.std.specs.Prelude.{◌≡◌};
 ghost use Rattle.orders.specs.Switches.{switched_on, switched_off, method_set, differ, takes_force, coupling_set, on, off, method, coupling, reapply};
 
@@ -76,7 +76,7 @@ fn coupling_set(before: Pw, time: u64, asked: u8) -> Step
     done(after)
 }
 
-// On, whatever it was: a running job ends first.
+/// On, whatever it was: a running job ends first.
 pub fn on(before: Pw, time: u64) -> Step
     ensures { result ≡ on before time }
 {
@@ -86,7 +86,7 @@ pub fn on(before: Pw, time: u64) -> Step
     switched_on(aborted(before), time)
 }
 
-// Off: a running job ends first, while the meter is still on.
+/// Off: a running job ends first, while the meter is still on.
 pub fn off(before: Pw, time: u64) -> Step
     ensures { result ≡ off before time }
 {
@@ -96,7 +96,7 @@ pub fn off(before: Pw, time: u64) -> Step
     switched_off(aborted(before))
 }
 
-// The alternating method where `alt`, else method B: a running job ends first.
+/// The alternating method where `alt`, else method B: a running job ends first.
 pub fn method(before: Pw, time: u64, alt: bool) -> Step
     ensures { result ≡ method before time alt }
 {
@@ -106,7 +106,7 @@ pub fn method(before: Pw, time: u64, alt: bool) -> Step
     method_set(aborted(before), time, alt)
 }
 
-// The coupling by its number, of which the low two bits count: a running job ends first.
+/// The coupling by its number, of which the low two bits count: a running job ends first.
 pub fn coupling(before: Pw, time: u64, asked: u8) -> Step
     ensures { result ≡ coupling before time asked }
 {
@@ -116,7 +116,7 @@ pub fn coupling(before: Pw, time: u64, asked: u8) -> Step
     coupling_set(aborted(before), time, asked)
 }
 
-// The row is to be written again, on or off; `cal_req` is cleared.
+/// The row is to be written again, on or off; `cal_req` is cleared.
 pub fn reapply(before: Pw, time: u64) -> Step
     ensures { result ≡ reapply before time }
 {

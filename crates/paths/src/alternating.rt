@@ -1,4 +1,4 @@
-// The alternating method after a result was taken (the source's `poll_power` where `alt` is true).
+//! The alternating method after a result was taken (the source's `poll_power` where `alt` is true).
 ghost use Rattle.std.specs.Prelude.{◌≡◌};
 ghost use Rattle.paths.specs.Alternating.{switched, alt_phase_done, alt_next};
 
@@ -38,7 +38,7 @@ fn alt_phase_done(with: Instrument, mode: Mode, now: u64, before: Measuring) -> 
     switched(now, before)
 }
 
-// One result more in the phase.
+/// One result more in the phase.
 pub(crate) fn alt_next(with: Instrument, mode: Mode, now: u64, before: Measuring) -> Outcome
     ensures { result ≡ alt_next with mode now before }
 {

@@ -1,5 +1,5 @@
-// The comparator's source and window after a voltage or current result (the source's
-// `pw_cmp_select`).
+//! The comparator's source and window after a voltage or current result (the source's
+//! `pw_cmp_select`).
 ghost use Rattle.std.specs.Prelude.{◌≡◌};
 ghost use Rattle.paths.specs.Comparator.{tap_scale, op_volts, chosen, cmp_select};
 
@@ -52,7 +52,7 @@ fn chosen(window: Window, op: f32, before: Comparator) -> Comparator
     }
 }
 
-// The choice, once voltage and current are marked as measured; before that nothing changes.
+/// The choice, once voltage and current are marked as measured; before that nothing changes.
 pub(crate) fn cmp_select(
     with: Instrument,
     ranges: Ranges,

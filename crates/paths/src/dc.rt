@@ -1,5 +1,5 @@
-// A frame in DC coupling (the source's `pw_poll_dc`): the voltage of RMS and LPF, then the current of
-// AD1. Document 01 takes AD1 from the same frame.
+//! A frame in DC coupling (the source's `pw_poll_dc`): the voltage of RMS and LPF, then the current of
+//! AD1. Document 01 takes AD1 from the same frame.
 ghost use Rattle.std.specs.Prelude.{◌≡◌};
 ghost use Rattle.paths.specs.Dc.{dc_v_result, dc_v_part, dc_i_result, dc_i_part, dc_frame};
 ghost use Rattle.paths.specs.Divided.{dc_v_first};
@@ -95,7 +95,7 @@ fn dc_v_first(
     ends(before)
 }
 
-// The voltage where RMS and LPF are ready, and then, unless the V range changed, the current.
+/// The voltage where RMS and LPF are ready, and then, unless the V range changed, the current.
 pub(crate) fn dc_frame(
     with: Instrument,
     mode: Mode,

@@ -1,4 +1,4 @@
-// A frame outside a job, by its path.
+//! A frame outside a job, by its path.
 ghost use Rattle.std.specs.Prelude.{◌≡◌};
 ghost use Rattle.paths.specs.Frame.{method_frame, frame};
 
@@ -39,7 +39,7 @@ fn method_frame(with: Instrument, mode: Mode, codes: Codes, now: u64, before: Me
     ends(before)
 }
 
-// DC coupling comes before the method. Both methods need RMS and LPF, or nothing happens.
+/// DC coupling comes before the method. Both methods need RMS and LPF, or nothing happens.
 pub fn frame(
     with: Instrument,
     mode: Mode,

@@ -1,5 +1,5 @@
-// Module 4 of document 01, a frame's way outside a job, up to its accounting: the ring, the takes of
-// its path, autorange, the comparator, and the next phase.
+//! Module 4 of document 01, a frame's way outside a job, up to its accounting: the ring, the takes of
+//! its path, autorange, the comparator, and the next phase.
 #![tactic(auto)]
 
 pub mod alternating;

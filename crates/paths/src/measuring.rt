@@ -1,4 +1,4 @@
-// What the path of a frame outside a job may change, and what it answers.
+//! What the path of a frame outside a job may change, and what it answers.
 ghost use Rattle.std.specs.Prelude.{◌≡◌};
 ghost use Rattle.paths.specs.Measuring.{ends, goes_on, measured_in, with_measured, ranging_in, autorange, ranged_to};
 
@@ -7,8 +7,8 @@ use state::{Comparator, Cycle, Mode, Parts, PhaseCal, Ranges, Stamp};
 use takes::scales::Instrument;
 use takes::take::Measured;
 
-// The meter's fields that the path of a frame outside a job may change, but for the ring. What the accounting
-// changes is not a path's.
+/// The meter's fields that the path of a frame outside a job may change, but for the ring. What the accounting
+/// changes is not a path's.
 #[derive(Clone, Copy)]
 #[repr(C)]
 pub struct Measuring {
@@ -20,9 +20,9 @@ pub struct Measuring {
     pub comparator: Comparator,
 }
 
-// What stands after the path, and the mark to the host. Whether the source goes on to `pw_vals`, which may still
-// answer none (not all of `seen` marked), and then nothing is accounted. Whether an AD1 result was taken, which the
-// ring notes.
+/// What stands after the path, and the mark to the host. Whether the source goes on to `pw_vals`, which may still
+/// answer none (not all of `seen` marked), and then nothing is accounted. Whether an AD1 result was taken, which the
+/// ring notes.
 #[derive(Clone, Copy)]
 #[repr(C)]
 pub struct Outcome {
@@ -32,7 +32,7 @@ pub struct Outcome {
     pub ad1_taken: bool,
 }
 
-// The frame ends: no mark, no values.
+/// The frame ends: no mark, no values.
 pub(crate) fn ends(measuring: Measuring) -> Outcome
     ensures { result ≡ ends measuring }
 {
@@ -44,7 +44,7 @@ pub(crate) fn ends(measuring: Measuring) -> Outcome
     }
 }
 
-// No mark; the frame goes on to the values.
+/// No mark; the frame goes on to the values.
 pub(crate) fn goes_on(measuring: Measuring) -> Outcome
     ensures { result ≡ goes_on measuring }
 {
@@ -56,7 +56,7 @@ pub(crate) fn goes_on(measuring: Measuring) -> Outcome
     }
 }
 
-// What the takes may change.
+/// What the takes may change.
 pub(crate) fn measured_in(measuring: Measuring) -> Measured
     ensures { result ≡ measured_in measuring }
 {
@@ -97,7 +97,7 @@ fn ranging_in(measuring: Measuring) -> Ranging
     }
 }
 
-// The autorange of the voltage, or of the current (the source's `pw_autorange`).
+/// The autorange of the voltage, or of the current (the source's `pw_autorange`).
 pub(crate) fn autorange(
     with: Instrument,
     mode: Mode,
@@ -114,7 +114,7 @@ pub(crate) fn autorange(
     autorange_i(with.description, mode, before.parts, ranging, now)
 }
 
-// A range was applied: its mark, and no values.
+/// A range was applied: its mark, and no values.
 pub(crate) fn ranged_to(before: Measuring, ranged: Ranged) -> Outcome
     ensures { result ≡ ranged_to before ranged }
 {

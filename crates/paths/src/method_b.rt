@@ -1,4 +1,4 @@
-// Method B after a result was taken (the source's `poll_power` where `alt` is false).
+//! Method B after a result was taken (the source's `poll_power` where `alt` is false).
 ghost use Rattle.std.specs.Prelude.{◌≡◌};
 ghost use Rattle.paths.specs.MethodB.{b_unranged, b_next};
 
@@ -28,7 +28,7 @@ fn b_unranged(with: Instrument, before: Measuring) -> Outcome
     goes_on(after)
 }
 
-// Only XX and YY may change a range or the comparator.
+/// Only XX and YY may change a range or the comparator.
 pub(crate) fn b_next(with: Instrument, mode: Mode, now: u64, before: Measuring) -> Outcome
     ensures { result ≡ b_next with mode now before }
 {

@@ -1,12 +1,12 @@
-// The ring: the sixteen latest conversions, by `ring_k` modulo 16.
+//! The ring: the sixteen latest conversions, by `ring_k` modulo 16.
 ghost use Rattle.std.specs.Prelude.{◌≡◌};
 ghost use Rattle.paths.specs.Ring.{held_dt, next_number, noted, note_result, note_current, result_stat, is_dropped, ring_after};
 
 use codes::{Codes, holds_rms_lpf};
 use state::{Cycle, Mode, Ring, elapsed};
 
-// One conversion: which result it was, whether it was dropped, its codes, and the ms since the last RMS and
-// LPF result, held to 65535, which are 0 for AD1.
+/// One conversion: which result it was, whether it was dropped, its codes, and the ms since the last RMS and
+/// LPF result, held to 65535, which are 0 for AD1.
 #[derive(Clone, Copy)]
 pub struct Raw {
     pub stat: u8,
@@ -107,8 +107,8 @@ fn is_dropped(mode: Mode, cycle: Cycle) -> bool
     cycle.skip > 0
 }
 
-// The ring after a frame that came upon this cycle: an RMS and LPF result is noted in any case, one of AD1
-// where it was taken.
+/// The ring after a frame that came upon this cycle: an RMS and LPF result is noted in any case, one of AD1
+/// where it was taken.
 pub fn ring_after(
     before: Ring,
     mode: Mode,

@@ -1,4 +1,4 @@
-// The parts of a whole meter that the path of a frame outside a job reads, and those that it may change.
+//! The parts of a whole meter that the path of a frame outside a job reads, and those that it may change.
 ghost use Rattle.std.specs.Prelude.{◌≡◌};
 ghost use Rattle.paths.specs.Whole.{instrument_in, measuring_in, with_measuring};
 
@@ -6,7 +6,7 @@ use crate::measuring::Measuring;
 use state::{Pw, Ring};
 use takes::scales::Instrument;
 
-// What a path reads and never changes: the description, the calibration words and the corrections.
+/// What a path reads and never changes: the description, the calibration words and the corrections.
 pub fn instrument_in(pw: Pw) -> Instrument
     ensures { result ≡ instrument_in pw }
 {
@@ -20,7 +20,7 @@ pub fn instrument_in(pw: Pw) -> Instrument
     }
 }
 
-// What a path may change.
+/// What a path may change.
 pub fn measuring_in(pw: Pw) -> Measuring
     ensures { result ≡ measuring_in pw }
 {
@@ -39,7 +39,7 @@ pub fn measuring_in(pw: Pw) -> Measuring
     }
 }
 
-// The meter with what a path has changed, and with the ring; all else stays.
+/// The meter with what a path has changed, and with the ring; all else stays.
 pub fn with_measuring(before: Pw, measuring: Measuring, ring: Ring) -> Pw
     ensures { result ≡ with_measuring before measuring ring }
 {

@@ -1,7 +1,7 @@
-// Module 5 of document 01, the phase calibration: two rounds of eight power results each, one at the
-// phase step in force and one at a trial step 48 away. By a straight line through their two means, the
-// step at which the load would show no active power is the new one. Every function is total: a record
-// may hold any numbers.
+//! Module 5 of document 01, the phase calibration: two rounds of eight power results each, one at the
+//! phase step in force and one at a trial step 48 away. By a straight line through their two means, the
+//! step at which the load would show no active power is the new one. Every function is total: a record
+//! may hold any numbers.
 #![tactic(auto)]
 
 ghost use Rattle.std.specs.Prelude.{◌≡◌};
@@ -11,8 +11,8 @@ use state::PhaseCal;
 use tables::bounds::within;
 use tables::constants::{CAL_FLAT, CAL_NOT_REACTIVE, CAL_OK, CAL_PF_MAX, CAL_RANGE, CAL_RUN};
 
-// What a calibration comes to: the phase step found; no finite null, as where the two means hardly
-// differ; or a null beyond 127.49 steps to either side.
+/// What a calibration comes to: the phase step found; no finite null, as where the two means hardly
+/// differ; or a null beyond 127.49 steps to either side.
 #[derive(Clone, Copy)]
 pub enum CalOutcome {
     Steps(i8),
@@ -20,7 +20,7 @@ pub enum CalOutcome {
     Range,
 }
 
-// What the accounting step leaves of the phase calibration, and whether the host is to re-apply.
+/// What the accounting step leaves of the phase calibration, and whether the host is to re-apply.
 #[derive(Clone, Copy)]
 #[repr(C)]
 pub struct PhaseStep {
@@ -30,7 +30,7 @@ pub struct PhaseStep {
 
 // ---- the outcome
 
-// The outcome of a null at `s` steps, rounded half away from zero.
+/// The outcome of a null at `s` steps, rounded half away from zero.
 pub fn cal_outcome(s: f32) -> CalOutcome
     ensures { result ≡ cal_outcome s }
 {
@@ -44,7 +44,7 @@ pub fn cal_outcome(s: f32) -> CalOutcome
     CalOutcome::Flat
 }
 
-// An outcome's number, as `cal_res` holds it.
+/// An outcome's number, as `cal_res` holds it.
 pub fn cal_number(outcome: CalOutcome) -> u8
     ensures { result ≡ cal_number outcome }
 {
@@ -55,7 +55,7 @@ pub fn cal_number(outcome: CalOutcome) -> u8
     }
 }
 
-// The phase step after an outcome: the one found, else `s0`, the one before the calibration.
+/// The phase step after an outcome: the one found, else `s0`, the one before the calibration.
 pub fn cal_steps(outcome: CalOutcome, s0: i8) -> i8
     ensures { result ≡ cal_steps outcome s0 }
 {
@@ -68,7 +68,7 @@ pub fn cal_steps(outcome: CalOutcome, s0: i8) -> i8
 
 // ---- start and stop
 
-// A calibration started: round 1, nothing counted yet, at the phase step in force.
+/// A calibration started: round 1, nothing counted yet, at the phase step in force.
 pub fn cal_start(before: PhaseCal) -> PhaseCal
     ensures { result ≡ cal_started before }
 {
@@ -83,8 +83,8 @@ pub fn cal_start(before: PhaseCal) -> PhaseCal
     }
 }
 
-// A calibration stopped by a job. The phase step stays, be it the trial step, and so does the result, be
-// it CAL_RUN.
+/// A calibration stopped by a job. The phase step stays, be it the trial step, and so does the result, be
+/// it CAL_RUN.
 pub fn cal_off(before: PhaseCal) -> PhaseCal
     ensures { result ≡ cal_off before }
 {
@@ -200,7 +200,7 @@ fn round_ended(before: PhaseCal, cal_req: bool) -> PhaseStep
     }
 }
 
-// The accounting step's part: while a calibration runs, a round ends with eight results counted.
+/// The accounting step's part: while a calibration runs, a round ends with eight results counted.
 pub fn cal_account(before: PhaseCal, cal_req: bool) -> PhaseStep
     ensures { result ≡ cal_accounted before cal_req }
 {

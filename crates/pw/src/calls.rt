@@ -1,4 +1,4 @@
-// The calls on a meter that the host keeps by value: include/pw.h describes each.
+//! The calls on a meter that the host keeps by value: include/pw.h describes each.
 ghost use Rattle.std.specs.Prelude.{◌≡◌};
 ghost use Rattle.meter.specs.Making.{make};
 ghost use Rattle.meter.specs.Calls.{step, On, Off, Method, SetRanges, Coupling, ZeroJob, GainJob, PhaseStart, EnergyReset, Run, SetSettings, Reapply, Frame};
@@ -92,8 +92,8 @@ pub fn pw_reapply(meter: Pw, time: u64) -> HostStep
     host_step(orders::switches::reapply(meter, time))
 }
 
-// As `meter::frame::poll` has it, in one function, and each answer is returned where it is known: a meter that
-// passes between two functions, or that two branches join on, is copied.
+/// As `meter::frame::poll` has it, in one function, and each answer is returned where it is known: a meter that
+/// passes between two functions, or that two branches join on, is copied.
 pub fn pw_frame(meter: Pw, time: u64, flags: u8, bytes: &[u8]) -> HostStep
     ensures { result ≡ host_step (step meter (Frame time flags bytes.now)) }
 {

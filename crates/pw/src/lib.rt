@@ -1,4 +1,4 @@
-// The functions of the C interface, which crates/pw_c exports: include/pw.h describes each.
+//! The functions of the C interface, which crates/pw_c exports: include/pw.h describes each.
 #![tactic(auto)]
 
 ghost use Rattle.std.specs.Prelude.{◌≡◌};
@@ -20,7 +20,7 @@ use formats::format::Format;
 use refusals::Refusal;
 use tables::window::Window;
 
-// `struct pw_codes`: the refusal's number, and the codes of the frame, 0 where it is refused.
+/// `struct pw_codes`: the refusal's number, and the codes of the frame, 0 where it is refused.
 #[derive(Clone, Copy)]
 #[repr(C)]
 pub struct FrameCodes {
@@ -30,7 +30,7 @@ pub struct FrameCodes {
     pub rms: i64,
 }
 
-// The codes of the frame in the host's bytes, which are read and not written.
+/// The codes of the frame in the host's bytes, which are read and not written.
 pub fn pw_decode(bytes: &[u8]) -> FrameCodes
     ensures { result ≡ frame_codes (decoded bytes.now) }
 {
@@ -53,7 +53,7 @@ pub fn pw_decode(bytes: &[u8]) -> FrameCodes
     }
 }
 
-// `struct pw_window`: whether a window was found, and R21, 0 where none was.
+/// `struct pw_window`: whether a window was found, and R21, 0 where none was.
 #[derive(Clone, Copy)]
 #[repr(C)]
 pub struct HostWindow {
@@ -61,7 +61,7 @@ pub struct HostWindow {
     pub r21: u8,
 }
 
-// The comparator's window for a middle of c volts and a swing of a volts.
+/// The comparator's window for a middle of c volts and a swing of a volts.
 pub fn pw_cmp_window(c: f32, a: f32) -> HostWindow
     ensures { result ≡ host_window (cmp_window c a) }
 {
@@ -78,28 +78,28 @@ pub fn pw_cmp_window(c: f32, a: f32) -> HostWindow
     }
 }
 
-// The number of the kind of row that the host writes at a mark.
+/// The number of the kind of row that the host writes at a mark.
 pub fn pw_row_kind(alt: bool, dc: bool, job: u8, step: u8, job_dc: bool, phase: u8) -> u8
     ensures { result ≡ row_number (row_kind alt dc job step job_dc phase) }
 {
     tables::row::row_number(tables::row::row_kind(alt, dc, job, step, job_dc, phase))
 }
 
-// R36 of a signed number of phase steps.
+/// R36 of a signed number of phase steps.
 pub fn pw_r36_of(steps: i8) -> u8
     ensures { result ≡ r36_of steps }
 {
     tables::ranges::r36_of(steps)
 }
 
-// An accumulator that nothing was added to: `Acc::ZERO`.
+/// An accumulator that nothing was added to: `Acc::ZERO`.
 pub fn pw_acc_fresh() -> Acc
     ensures { result ≡ fresh_acc }
 {
     Acc::ZERO
 }
 
-// Adds to the host's own accumulator, and answers 0; or 6, full, and it is as it was. The body is that of `Acc::add`.
+/// Adds to the host's own accumulator, and answers 0; or 6, full, and it is as it was. The body is that of `Acc::add`.
 pub fn pw_acc_add(acc: &mut Acc, joules: f32) -> u8
     ensures { (result ≡ added_number (add_to acc.old joules)) × (acc.new ≡ added_acc acc.old (add_to acc.old joules)) × ExactAfter acc.old joules result acc.new }
 {
@@ -108,14 +108,14 @@ pub fn pw_acc_add(acc: &mut Acc, joules: f32) -> u8
     after.refusal
 }
 
-// The watt hours of an accumulator.
+/// The watt hours of an accumulator.
 pub fn pw_acc_wh(acc: Acc) -> f32
     ensures { result ≡ watt_hours acc }
 {
     Acc::wh(acc)
 }
 
-// `struct pw_format`: the unit by its number.
+/// `struct pw_format`: the unit by its number.
 #[derive(Clone, Copy)]
 #[repr(C)]
 pub struct HostFormat {
@@ -136,14 +136,14 @@ fn host_format(f: Format) -> HostFormat
     }
 }
 
-// `energy_format`: the apparent energy where `va`, else the active one.
+/// `energy_format`: the apparent energy where `va`, else the active one.
 pub fn pw_energy_format(wh: f32, va: bool) -> HostFormat
     ensures { result ≡ host_format (energy_format wh va) }
 {
     host_format(formats::format::energy_format(wh, va))
 }
 
-// `p_format`: a power of si W or VA, in a pair of ranges of fs W or VA full scale.
+/// `p_format`: a power of si W or VA, in a pair of ranges of fs W or VA full scale.
 pub fn pw_p_format(fs: f32, si: f32, watts: bool) -> HostFormat
     ensures { result ≡ host_format (p_format fs si watts) }
 {

@@ -1,4 +1,4 @@
-// What a host reads off a meter: include/pw.h describes each function.
+//! What a host reads off a meter: include/pw.h describes each function.
 ghost use Rattle.std.specs.Prelude.{◌≡◌};
 ghost use Rattle.tables.specs.Row.{row_kind, row_number};
 ghost use Rattle.values.specs.Vals.{pw_vals, pw_state, integrating};
@@ -63,7 +63,7 @@ pub fn pw_integrating(meter: Pw) -> bool
     values::vals::integrating(meter)
 }
 
-// The number of the kind of row that the host writes at a mark.
+/// The number of the kind of row that the host writes at a mark.
 pub fn pw_row(meter: Pw) -> u8
     ensures { result ≡ row_number (row_kind meter.mode.alt meter.mode.dc meter.job.job meter.job.job_step meter.job.job_dc meter.cycle.phase) }
 {
@@ -78,7 +78,7 @@ pub fn pw_row(meter: Pw) -> u8
     tables::row::row_number(kind)
 }
 
-// One of the sixteen latest conversions, by its age.
+/// One of the sixteen latest conversions, by its age.
 pub fn pw_conversion(meter: Pw, age: u8) -> HostConversion
     ensures { result ≡ conversion meter.ring age }
 {

@@ -1,4 +1,4 @@
-// What a host reads off a meter: include/pw.h describes each function.
+//! What a host reads off a meter: include/pw.h describes each function.
 ghost use Rattle.std.specs.Prelude.{◌≡◌};
 ghost use Rattle.tables.specs.Row.{row_kind, row_number};
 ghost use Rattle.values.specs.Vals.{pw_vals, pw_state, integrating};
@@ -69,7 +69,7 @@ pub extern "C" fn pw_integrating(meter: Pw) -> bool
     pw::shown::pw_integrating(meter)
 }
 
-// The number of the kind of row that the host writes at a mark.
+/// The number of the kind of row that the host writes at a mark.
 #[unsafe(no_mangle)]
 pub extern "C" fn pw_row(meter: Pw) -> u8
     ensures { result ≡ row_number (row_kind meter.mode.alt meter.mode.dc meter.job.job meter.job.job_step meter.job.job_dc meter.cycle.phase) }
@@ -77,7 +77,7 @@ pub extern "C" fn pw_row(meter: Pw) -> u8
     pw::shown::pw_row(meter)
 }
 
-// One of the sixteen latest conversions, by its age.
+/// One of the sixteen latest conversions, by its age.
 #[unsafe(no_mangle)]
 pub extern "C" fn pw_conversion(meter: Pw, age: u8) -> HostConversion
     ensures { result ≡ conversion meter.ring age }

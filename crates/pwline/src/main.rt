@@ -1,12 +1,12 @@
-// Document 01's program `pwline`: it reads standard input, one bracketed form a line, and answers each
-// line.
-//
-// Proved: what each byte of the input does to the session, and the text that is to be written for it
-// (`session::feed`, `session::finish`); that a part of the input leaves the session that all its bytes
-// do, in their order (`feed_all`); that the texts for a whole input, one behind the other, are document
-// 01's answers to its lines (`whole` in proofs/Stated.antt); and that the program is safe and ends. No
-// contract can say what is read and written: that the reads give the input, that the texts are written
-// and in which order, is seen in `feed_all`, `take_some` and `main`, and tested.
+//! Document 01's program `pwline`: it reads standard input, one bracketed form a line, and answers each
+//! line.
+//!
+//! Proved: what each byte of the input does to the session, and the text that is to be written for it
+//! (`session::feed`, `session::finish`); that a part of the input leaves the session that all its bytes
+//! do, in their order (`feed_all`); that the texts for a whole input, one behind the other, are document
+//! 01's answers to its lines (`whole` in proofs/Stated.antt); and that the program is safe and ends. No
+//! contract can say what is read and written: that the reads give the input, that the texts are written
+//! and in which order, is seen in `feed_all`, `take_some` and `main`, and tested.
 #![tactic(auto)]
 
 mod session;

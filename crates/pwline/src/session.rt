@@ -1,4 +1,4 @@
-// The input of `pwline`, byte by byte: lines are kept, and each is answered at its end.
+//! The input of `pwline`, byte by byte: lines are kept, and each is answered at its end.
 ghost use Rattle.std.specs.Prelude.{◌≡◌, ◌≤◌, min};
 ghost use Rattle.pwline.specs.Text.{shown};
 ghost use Rattle.pwline.specs.Obeyed.{told_by, obeyed};
@@ -19,8 +19,8 @@ use tables::calibration::Calibration;
 // whatever follows.
 const KEPT: usize = 128;
 
-// The meter after a line; whether the line was spelled as an order or a frame; and if so, the meter's
-// refusal number.
+/// The meter after a line; whether the line was spelled as an order or a frame; and if so, the meter's
+/// refusal number.
 #[derive(Clone, Copy)]
 pub struct Reply {
     pub pw: Pw,
@@ -28,7 +28,7 @@ pub struct Reply {
     pub refusal: u8,
 }
 
-// The meter, the number of the line that is being read, and the first bytes of it.
+/// The meter, the number of the line that is being read, and the first bytes of it.
 #[derive(Clone, Copy)]
 pub struct Session {
     pub pw: Pw,
@@ -37,7 +37,7 @@ pub struct Session {
     pub count: usize,
 }
 
-// The session after some bytes, and what is to be written.
+/// The session after some bytes, and what is to be written.
 #[derive(Clone, Copy)]
 pub struct Fed {
     pub session: Session,
@@ -80,7 +80,7 @@ fn obey(pw: Pw, line: &[u8]) -> Reply
     }
 }
 
-// Document 01's meter, and nothing read yet.
+/// Document 01's meter, and nothing read yet.
 pub fn start() -> Session
     ensures { result ≡ started }
 {
@@ -139,7 +139,7 @@ fn end(s: Session) -> Fed
     Fed { session, text }
 }
 
-// A byte of the input.
+/// A byte of the input.
 pub fn feed(s: Session, b: u8) -> Fed
     ensures { (result.session ≡ fed s b) × (result.text.count ≤ 72) × (shown result.text ≡ fed_text s b) }
 {
@@ -151,7 +151,7 @@ pub fn feed(s: Session, b: u8) -> Fed
     Fed { session, text }
 }
 
-// The end of the input: a last line without a line feed is answered.
+/// The end of the input: a last line without a line feed is answered.
 #[tactic(auto, unfolding(crate::specs::Divided::last_text))]
 pub fn finish(s: Session) -> Text
     ensures { (result.count ≤ 72) × (shown result ≡ last_text s) }

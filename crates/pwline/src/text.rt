@@ -1,9 +1,9 @@
-// The text of an answer, `(N R J)` and a line feed.
+//! The text of an answer, `(N R J)` and a line feed.
 ghost use Rattle.std.specs.Prelude.{◌≡◌, ◌+◌, ◌≤◌, ◌++◌, length};
 ghost use Rattle.pwline.specs.Text.{decimal_text, refusal_text, answer_text, shown};
 
-// The first `count` bytes. Three numbers of 20 digits and what stands around them have room.
-// What stands behind `count` bytes means nothing.
+/// The first `count` bytes. Three numbers of 20 digits and what stands around them have room.
+/// What stands behind `count` bytes means nothing.
 #[derive(Clone, Copy)]
 pub struct Text {
     pub bytes: [u8; 72],
@@ -57,7 +57,7 @@ fn put_refusal(text: Text, spelled: bool, refusal: u8) -> Text
     put(text, b"-")
 }
 
-// The answer to a line: its number, the refusal number, `job_res`.
+/// The answer to a line: its number, the refusal number, `job_res`.
 pub fn answer(number: u64, spelled: bool, refusal: u8, job_res: u8) -> Text
     ensures { (result.count ≤ 72) × (shown result ≡ answer_text number spelled refusal job_res) }
 {

@@ -1,5 +1,5 @@
-// The apply (the source's `pw_apply`): measuring starts over, but for a channel that is kept; the host
-// writes the row at once, and goes on at the deadline.
+//! The apply (the source's `pw_apply`): measuring starts over, but for a channel that is kept; the host
+//! writes the row at once, and goes on at the deadline.
 ghost use Rattle.std.specs.Prelude.{◌≡◌};
 ghost use Rattle.ranging.specs.Apply.{phase_after, bit_in, kept_seen, skip_after, comparator_for, apply};
 
@@ -7,7 +7,7 @@ use state::{Comparator, Cycle, Mode, Quantity, bit_of, deadline, has_seen};
 use tables::constants::{ALT_V_SKIP, DC_SKIP, R20_SENSE, R21_DEFAULT, SETTLE_MS};
 use tables::lookups::cycle;
 
-// Which channel's marks stay over an apply (the source's `keep`: 0, 2, 4).
+/// Which channel's marks stay over an apply (the source's `keep`: 0, 2, 4).
 #[derive(Clone, Copy)]
 pub enum Keep {
     Nothing,
@@ -15,7 +15,7 @@ pub enum Keep {
     Current,
 }
 
-// What an apply leaves, and when the host goes on.
+/// What an apply leaves, and when the host goes on.
 #[derive(Clone, Copy)]
 #[repr(C)]
 pub struct Applied {
@@ -89,7 +89,7 @@ fn comparator_for(vr: u8, comparator: Comparator) -> Comparator
     }
 }
 
-// The source's `pw_apply` with its `keep`, at the time `now`, in the V range `vr`.
+/// The source's `pw_apply` with its `keep`, at the time `now`, in the V range `vr`.
 pub fn apply(
     keep: Keep,
     mode: Mode,

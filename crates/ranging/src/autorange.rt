@@ -1,5 +1,5 @@
-// Autorange (the source's `pw_autorange` and `pw_ovl_trip`): a range that changes is applied at once,
-// and the other channel's parts are kept.
+//! Autorange (the source's `pw_autorange` and `pw_ovl_trip`): a range that changes is applied at once,
+//! and the other channel's parts are kept.
 ghost use Rattle.std.specs.Prelude.{◌≡◌};
 ghost use Rattle.ranging.specs.Autorange.{stays, changed_v, changed_i, autorange_v, autorange_i};
 
@@ -8,7 +8,7 @@ use crate::change::{Change, barred_after, i_change, trips, v_change};
 use state::{Comparator, Cycle, Mode, Parts, Ranges, Stamp};
 use tables::description::Description;
 
-// What an autorange may change.
+/// What an autorange may change.
 #[derive(Clone, Copy)]
 #[repr(C)]
 pub struct Ranging {
@@ -18,7 +18,7 @@ pub struct Ranging {
     pub comparator: Comparator,
 }
 
-// What it leaves; a mark is set exactly where a range was applied.
+/// What it leaves; a mark is set exactly where a range was applied.
 #[derive(Clone, Copy)]
 #[repr(C)]
 pub struct Ranged {
@@ -96,7 +96,7 @@ fn changed_i(mode: Mode, before: Ranging, barred: u8, ik: u8, now: u64) -> Range
     }
 }
 
-// After a V result.
+/// After a V result.
 pub fn autorange_v(
     description: Description,
     mode: Mode,
@@ -113,7 +113,7 @@ pub fn autorange_v(
     }
 }
 
-// After a current result. A trip bars the unit and goes to 10 A.
+/// After a current result. A trip bars the unit and goes to 10 A.
 pub fn autorange_i(
     description: Description,
     mode: Mode,

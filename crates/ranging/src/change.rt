@@ -1,4 +1,4 @@
-// Which range the meter asks for, by the volts or amperes that it measures.
+//! Which range the meter asks for, by the volts or amperes that it measures.
 ghost use Rattle.std.specs.Prelude.{◌≡◌};
 ghost use Rattle.ranging.specs.Change.{step, v_change, overload_trips, is_over, trips, barred_after, shunt_floor, least_ik, i_change};
 
@@ -8,7 +8,7 @@ use tables::description::Description;
 use tables::lookups::{i_lim, v_lim};
 use tables::ranges::iu_ir;
 
-// The range stays, or becomes another.
+/// The range stays, or becomes another.
 #[derive(Clone, Copy)]
 pub(crate) enum Change {
     Stays,
@@ -33,7 +33,7 @@ fn step(over: f32, limit: f32, m: f32, k: u8, least: u8, most: u8) -> Change
     Change::Stays
 }
 
-// The V channel's, after a V result.
+/// The V channel's, after a V result.
 pub(crate) fn v_change(description: Description, ranges: Ranges, parts: Parts) -> Change
     ensures { result ≡ v_change description ranges parts }
 {
@@ -71,7 +71,7 @@ fn is_over(over: f32, ik: u8, parts: Parts) -> bool
     numbers::hypot(parts.i_ac, parts.i_dc) > over * i_lim(ik)
 }
 
-// Whether a current range that was set by hand trips.
+/// Whether a current range that was set by hand trips.
 pub(crate) fn trips(description: Description, ranges: Ranges, parts: Parts) -> bool
     ensures { result ≡ trips description ranges parts }
 {
@@ -83,8 +83,8 @@ pub(crate) fn trips(description: Description, ranges: Ranges, parts: Parts) -> b
     overload_trips(u.iu, u.ir, true, over)
 }
 
-// The unit barred after a trip on current range ik: that range's, or the one barred before where that
-// is coarser.
+/// The unit barred after a trip on current range ik: that range's, or the one barred before where that
+/// is coarser.
 pub(crate) fn barred_after(barred: u8, ik: u8) -> u8
     ensures { result ≡ barred_after barred ik }
 {
@@ -119,8 +119,8 @@ fn least_ik(a_auto: bool, barred: u8) -> u8
     floor
 }
 
-// The current channel's, after a current result: from the mA and uA shunts up in one hop to the A
-// shunt.
+/// The current channel's, after a current result: from the mA and uA shunts up in one hop to the A
+/// shunt.
 pub(crate) fn i_change(description: Description, ranges: Ranges, barred: u8, parts: Parts) -> Change
     ensures { result ≡ i_change description ranges barred parts }
 {

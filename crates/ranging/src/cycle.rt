@@ -1,4 +1,4 @@
-// The way from one phase to the next.
+//! The way from one phase to the next.
 ghost use Rattle.std.specs.Prelude.{◌≡◌};
 ghost use Rattle.ranging.specs.Cycle.{advance, other_phase, alt_switch};
 
@@ -6,7 +6,7 @@ use state::{Cycle, deadline};
 use tables::constants::{ALT_V_SETTLE_MS, ALT_V_SKIP, DISC_DEFAULT, SETTLE_MS};
 use tables::lookups::cycle;
 
-// The next phase of the alternating method, and when the host goes on.
+/// The next phase of the alternating method, and when the host goes on.
 #[derive(Clone, Copy)]
 #[repr(C)]
 pub struct Switched {
@@ -14,7 +14,7 @@ pub struct Switched {
     pub deadline: u64,
 }
 
-// Method B: the next phase; where it has another R34, that is set and two results are to be dropped.
+/// Method B: the next phase; where it has another R34, that is set and two results are to be dropped.
 pub fn advance(before: Cycle) -> Cycle
     ensures { result ≡ advance before }
 {
@@ -37,8 +37,8 @@ fn other_phase(phase: u8) -> u8
     if phase % 2 == 0 { phase + 1 } else { phase - 1 }
 }
 
-// The alternating method: the other row; the V row settles longer, and its first four results are
-// dropped.
+/// The alternating method: the other row; the V row settles longer, and its first four results are
+/// dropped.
 pub fn alt_switch(before: Cycle, now: u64) -> Switched
     ensures { result ≡ alt_switch before now }
 {

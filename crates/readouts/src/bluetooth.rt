@@ -1,5 +1,5 @@
-// What the stock phone program is sent: `bt_mode_byte` and `bt_main` of the source. Its protocol has no
-// power function, so watts go as volts.
+//! What the stock phone program is sent: `bt_mode_byte` and `bt_main` of the source. Its protocol has no
+//! power function, so watts go as volts.
 ghost use Rattle.std.specs.Prelude.{◌≡◌, ◌-◌};
 ghost use Rattle.formats.specs.Readout.{tens};
 ghost use Rattle.readouts.specs.Bluetooth.{bt_mode_byte, volt_group, too_large, decimals_that_fit, held_number, bt_val, bt_main};
@@ -11,8 +11,8 @@ use formats::units::{Unit, same_unit};
 use tables::bounds::at_most;
 use values::power_vals::PowerVals;
 
-// The mode byte of DC V: 8 times 5 for an automatic range, else 8 times one more than the V range,
-// where one above 3 counts as 3.
+/// The mode byte of DC V: 8 times 5 for an automatic range, else 8 times one more than the V range,
+/// where one above 3 counts as 3.
 pub fn bt_mode_byte(v_auto: bool, vr: u8) -> u8
     ensures { result ≡ bt_mode_byte v_auto vr }
 {
@@ -60,8 +60,8 @@ fn too_large(x: f32, k: f32) -> bool
     numbers::abs(x) * k + 0.5 >= 65535.0
 }
 
-// How many decimals fit, possibly 0, and the factor that goes with them: ten to the most, times 0.1 for
-// each one dropped.
+/// How many decimals fit, possibly 0, and the factor that goes with them: ten to the most, times 0.1 for
+/// each one dropped.
 #[derive(Clone, Copy)]
 pub struct Fitted {
     pub k: f32,
@@ -109,8 +109,8 @@ fn bt_val(f: Format) -> Val
     })
 }
 
-// The main value: the power (the apparent one in the alternating method); over where voltage or
-// current is, and where it is not finite.
+/// The main value: the power (the apparent one in the alternating method); over where voltage or
+/// current is, and where it is not finite.
 pub fn bt_main(pv: PowerVals) -> Val
     ensures { result ≡ bt_main pv }
 {

@@ -1,4 +1,4 @@
-// Module 6 of document 01, readouts: the values as figures with decimals and units.
+//! Module 6 of document 01, readouts: the values as figures with decimals and units.
 #![tactic(auto)]
 
 pub mod bluetooth;

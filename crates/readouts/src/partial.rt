@@ -1,4 +1,4 @@
-// `pw_partial` of the source: what is shown in place of a reading.
+//! `pw_partial` of the source: what is shown in place of a reading.
 ghost use Rattle.std.specs.Prelude.{◌≡◌};
 ghost use Rattle.readouts.specs.Partial.{partial_text, volts_so_far, ranging, pw_partial};
 
@@ -9,8 +9,8 @@ use state::{Pw, Quantity, has_seen};
 use tables::constants::{JOB_VCAL, JOB_ZERO};
 use values::vals::{Vals, pw_vals};
 
-// Nothing while off; a zero or a gain job while one runs; else nothing where there is a reading, and
-// where there is none the current still being ranged, with the volts where they are measured.
+/// Nothing while off; a zero or a gain job while one runs; else nothing where there is a reading, and
+/// where there is none the current still being ranged, with the volts where they are measured.
 #[derive(Clone, Copy)]
 pub enum Partial {
     Nothing,
@@ -20,7 +20,7 @@ pub enum Partial {
     RangingAt(Val),
 }
 
-// The number of the text: 0 none, 1 zeroing, 2 V calibration, 3 I ranging.
+/// The number of the text: 0 none, 1 zeroing, 2 V calibration, 3 I ranging.
 pub fn partial_text(partial: Partial) -> u8
     ensures { result ≡ partial_text partial }
 {
@@ -58,7 +58,7 @@ fn ranging(pw: Pw) -> Partial
     }
 }
 
-// The source's `pw_partial`: by whether the meter is on, the job, and whether there is a reading.
+/// The source's `pw_partial`: by whether the meter is on, the job, and whether there is a reading.
 pub fn pw_partial(pw: Pw) -> Partial
     ensures { result ≡ pw_partial pw }
 {

@@ -1,4 +1,4 @@
-// `reading_vals` and `energy_val` of the source: the readouts of a reading.
+//! `reading_vals` and `energy_val` of the source: the readouts of a reading.
 ghost use Rattle.std.specs.Prelude.{◌≡◌};
 ghost use Rattle.readouts.specs.Readings.{full_scale, volt_decimals, main_si, any_over, v_readout, i_format, i_readout, energy_readout, power_readout, main_readout, reading_vals, energy_val};
 
@@ -12,8 +12,8 @@ use tables::lookups::{i_lim, v_lim};
 use tables::ranges::iu_ir;
 use values::power_vals::{Limits, PowerVals};
 
-// The main readout, volts and amperes; and the power in W or VA, also where the main readout is an
-// energy, or 0.0 where volts or amperes are over.
+/// The main readout, volts and amperes; and the power in W or VA, also where the main readout is an
+/// energy, or 0.0 where volts or amperes are over.
 #[derive(Clone, Copy)]
 pub struct Readouts {
     pub main: Val,
@@ -22,21 +22,21 @@ pub struct Readouts {
     pub si: f32,
 }
 
-// The full scale of a pair of ranges, in W.
+/// The full scale of a pair of ranges, in W.
 pub(crate) fn full_scale(ranges: Ranges) -> f32
     ensures { result ≡ full_scale ranges }
 {
     v_lim(ranges.vr) * i_lim(ranges.ik)
 }
 
-// The decimals of the volts in a V range.
+/// The decimals of the volts in a V range.
 pub(crate) fn volt_decimals(vr: u8) -> u8
     ensures { result ≡ volt_decimals vr }
 {
     4 - at_most(3, vr)
 }
 
-// The power, or the apparent power in the alternating method.
+/// The power, or the apparent power in the alternating method.
 pub(crate) fn main_si(pv: PowerVals) -> f32
     ensures { result ≡ main_si pv }
 {
@@ -47,7 +47,7 @@ pub(crate) fn main_si(pv: PowerVals) -> f32
     }
 }
 
-// Whether voltage or current is over its range.
+/// Whether voltage or current is over its range.
 pub(crate) fn any_over(limits: Limits) -> bool
     ensures { result ≡ any_over limits }
 {
@@ -131,7 +131,7 @@ fn main_readout(pv: PowerVals) -> Val
     }
 }
 
-// The source's `reading_vals`: the readouts of the values.
+/// The source's `reading_vals`: the readouts of the values.
 pub fn reading_vals(pv: PowerVals) -> Readouts
     ensures { result ≡ reading_vals pv }
 {
@@ -156,7 +156,7 @@ pub fn reading_vals(pv: PowerVals) -> Readouts
     }
 }
 
-// The energy where `main` is MAIN_P; else the power.
+/// The energy where `main` is MAIN_P; else the power.
 pub fn energy_val(pv: PowerVals) -> Val
     ensures { result ≡ energy_val pv }
 {

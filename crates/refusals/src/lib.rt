@@ -1,4 +1,4 @@
-// What the meter says back to a call: document 01's table of nine words, each with its number.
+//! What the meter says back to a call: document 01's table of nine words, each with its number.
 #![tactic(auto)]
 
 ghost use Rattle.std.specs.Prelude.{◌≡◌};
@@ -6,28 +6,28 @@ ghost use Rattle.refusals.specs.Number.{refusal_number};
 
 #[derive(Clone, Copy)]
 pub enum Refusal {
-    // not refused
+    /// not refused
     Done,
-    // frame, job start or phase start while not on
+    /// frame, job start or phase start while not on
     Off,
-    // job start or re-apply while a job runs
+    /// job start or re-apply while a job runs
     Busy,
-    // job start in the alternating method; phase start there or with `dc`
+    /// job start in the alternating method; phase start there or with `dc`
     Method,
-    // frame not 14 bytes
+    /// frame not 14 bytes
     Frame,
-    // time of 2^48 ms or more
+    /// time of 2^48 ms or more
     Late,
-    // the accounting step would give a millijoule count or a counted time outside signed 64 bits, or
-    // a sum that is not finite or outside -2^63 <= sum < 2^63
+    /// the accounting step would give a millijoule count or a counted time outside signed 64 bits, or
+    /// a sum that is not finite or outside -2^63 <= sum < 2^63
     Full,
-    // one of the description's six numbers is NaN or outside 2^-20 to 2^20, ends allowed
+    /// one of the description's six numbers is NaN or outside 2^-20 to 2^20, ends allowed
     Description,
-    // calibration words not 73
+    /// calibration words not 73
     Words,
 }
 
-// The number by which document 01 names the refusal.
+/// The number by which document 01 names the refusal.
 pub fn number(refusal: Refusal) -> u8
     ensures { result ≡ refusal_number refusal }
 {

@@ -1,2 +1,2 @@
-// No code: specs/Rows.antt has rows of document 01 marked P, proofs/Checked.antt their check.
+//! No code: specs/Rows.antt has rows of document 01 marked P, proofs/Checked.antt their check.
 #![tactic(auto)]

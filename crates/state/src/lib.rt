@@ -1,6 +1,6 @@
-// The meter's state: `Pw` by value, made of one struct for each group of fields that change together,
-// under the source's names. All are laid out as in C, so that a C host can keep one. NEW is what each
-// holds in a meter just made.
+//! The meter's state: `Pw` by value, made of one struct for each group of fields that change together,
+//! under the source's names. All are laid out as in C, so that a C host can keep one. NEW is what each
+//! holds in a meter just made.
 #![tactic(auto)]
 
 ghost use Rattle.std.specs.Prelude.{◌≡◌};
@@ -16,7 +16,7 @@ use tables::constants::{
 };
 use tables::description::Description;
 
-// A time in ms where `set`, else none: the source's `Option<u64>`.
+/// A time in ms where `set`, else none: the source's `Option<u64>`.
 #[derive(Clone, Copy)]
 #[repr(C)]
 pub struct Stamp {
@@ -25,12 +25,12 @@ pub struct Stamp {
 }
 
 impl Stamp {
-    // No time.
+    /// No time.
     pub const NONE: Stamp = Stamp { set: false, at: 0 };
 }
 
-// What the meter does: on, the alternating method, the coupling asked for, DC coupling in force, and
-// that the host is to re-apply.
+/// What the meter does: on, the alternating method, the coupling asked for, DC coupling in force, and
+/// that the host is to re-apply.
 #[derive(Clone, Copy)]
 #[repr(C)]
 pub struct Mode {
@@ -52,7 +52,7 @@ impl Mode {
     };
 }
 
-// The V range and the current range, and whether each is found by itself.
+/// The V range and the current range, and whether each is found by itself.
 #[derive(Clone, Copy)]
 #[repr(C)]
 pub struct Ranges {
@@ -72,10 +72,10 @@ impl Ranges {
     };
 }
 
-// The phase; the results still to drop (`skip_y` those of the DC row's voltage); the results taken in
-// this phase of the alternating method; `stat`, which is R34 where the row is the power row (with
-// another row it is in no register); and the quantities marked as measured (1 power, 2 voltage, 4
-// current), of which an apply clears those that it does not keep.
+/// The phase; the results still to drop (`skip_y` those of the DC row's voltage); the results taken in
+/// this phase of the alternating method; `stat`, which is R34 where the row is the power row (with
+/// another row it is in no register); and the quantities marked as measured (1 power, 2 voltage, 4
+/// current), of which an apply clears those that it does not keep.
 #[derive(Clone, Copy)]
 #[repr(C)]
 pub struct Cycle {
@@ -98,7 +98,7 @@ impl Cycle {
     };
 }
 
-// The three bits of `seen`.
+/// The three bits of `seen`.
 #[derive(Clone, Copy)]
 pub enum Quantity {
     Power,
@@ -106,7 +106,7 @@ pub enum Quantity {
     Current,
 }
 
-// The smoothed values: W, V and A by AC and DC part; `vac_dc` is the AC volts in DC coupling.
+/// The smoothed values: W, V and A by AC and DC part; `vac_dc` is the AC volts in DC coupling.
 #[derive(Clone, Copy)]
 #[repr(C)]
 pub struct Parts {
@@ -129,7 +129,7 @@ impl Parts {
     };
 }
 
-// The powers of the next interval.
+/// The powers of the next interval.
 #[derive(Clone, Copy)]
 #[repr(C)]
 pub struct Powers {
@@ -144,7 +144,7 @@ impl Powers {
     };
 }
 
-// Whether energy is counted, the last accounted frame's time, and the last frame's.
+/// Whether energy is counted, the last accounted frame's time, and the last frame's.
 #[derive(Clone, Copy)]
 #[repr(C)]
 pub struct Clock {
@@ -162,8 +162,8 @@ impl Clock {
     };
 }
 
-// Whether the drop in the meter's own path is taken off, the path's ohms by unit, the limit of the
-// continuous current in A with the seconds allowed above it, and the main readout: the order `settings`.
+/// Whether the drop in the meter's own path is taken off, the path's ohms by unit, the limit of the
+/// continuous current in A with the seconds allowed above it, and the main readout: the order `settings`.
 #[derive(Clone, Copy)]
 #[repr(C)]
 pub struct Settings {
@@ -184,9 +184,9 @@ impl Settings {
     };
 }
 
-// The phase step in force (`sph`), and the phase calibration: 0 off, 1 or 2 for its two rounds; how
-// many power results this round has counted, and the sum of their p / (v_ac * i_ac); the step and the
-// mean of round 1; the result.
+/// The phase step in force (`sph`), and the phase calibration: 0 off, 1 or 2 for its two rounds; how
+/// many power results this round has counted, and the sum of their p / (v_ac * i_ac); the step and the
+/// mean of round 1; the result.
 #[derive(Clone, Copy)]
 #[repr(C)]
 pub struct PhaseCal {
@@ -211,8 +211,8 @@ impl PhaseCal {
     };
 }
 
-// The stored zeros (`zx` and `zd` by current range) with their mark, and the stored gain of each V
-// range, 0.0 where the factory's counts.
+/// The stored zeros (`zx` and `zd` by current range) with their mark, and the stored gain of each V
+/// range, 0.0 where the factory's counts.
 #[derive(Clone, Copy)]
 #[repr(C)]
 pub struct Corrections {
@@ -234,8 +234,8 @@ impl Corrections {
     };
 }
 
-// The running job (0 none), what it has measured, and the ranges and marks found at its start.
-// `used` counts the ready frames that it has used.
+/// The running job (0 none), what it has measured, and the ranges and marks found at its start.
+/// `used` counts the ready frames that it has used.
 #[derive(Clone, Copy)]
 #[repr(C)]
 pub struct Job {
@@ -277,8 +277,8 @@ impl Job {
     };
 }
 
-// The comparator's source (R20 without its counter's bit, 02h) and window (R21), whether a frequency is
-// to be had, and the V range that the window was chosen for.
+/// The comparator's source (R20 without its counter's bit, 02h) and window (R21), whether a frequency is
+/// to be had, and the V range that the window was chosen for.
 #[derive(Clone, Copy)]
 #[repr(C)]
 pub struct Comparator {
@@ -298,10 +298,10 @@ impl Comparator {
     };
 }
 
-// The sixteen latest conversions, the one of number n at n modulo 16: which result it was (R34 in method
-// B; 1 and 2 the alternating voltage and current; 3 and 4 the DC row's, where AD1 stands in `lpf`),
-// whether it was dropped, its codes, and the ms since the RMS and LPF result before it, held to 65535
-// (0 for AD1). `ring_k` is the next number, `t_res` the last RMS and LPF result's time.
+/// The sixteen latest conversions, the one of number n at n modulo 16: which result it was (R34 in method
+/// B; 1 and 2 the alternating voltage and current; 3 and 4 the DC row's, where AD1 stands in `lpf`),
+/// whether it was dropped, its codes, and the ms since the RMS and LPF result before it, held to 65535
+/// (0 for AD1). `ring_k` is the next number, `t_res` the last RMS and LPF result's time.
 #[derive(Clone, Copy)]
 #[repr(C)]
 pub struct Ring {
@@ -326,9 +326,9 @@ impl Ring {
     };
 }
 
-// The whole meter. `barred` is 0 where nothing is barred, else the coarsest unit (1 mA, 2 uA) of a
-// current range that tripped: it and the finer one are barred. `over_t0` is since when the current is
-// above its limit.
+/// The whole meter. `barred` is 0 where nothing is barred, else the coarsest unit (1 mA, 2 uA) of a
+/// current range that tripped: it and the finer one are barred. `over_t0` is since when the current is
+/// above its limit.
 #[derive(Clone, Copy)]
 #[repr(C)]
 pub struct Pw {
@@ -382,8 +382,8 @@ impl Pw {
         ring: Ring::NEW,
     };
 
-    // A meter with this description and these words, just made: the source's `Pw::new`, and beside it
-    // nothing barred, no frame yet, and no ready frame used.
+    /// A meter with this description and these words, just made: the source's `Pw::new`, and beside it
+    /// nothing barred, no frame yet, and no ready frame used.
     pub fn new(description: Description, calibration: Calibration) -> Pw
         ensures { result ≡ new_pw description calibration }
     {
@@ -394,14 +394,14 @@ impl Pw {
     }
 }
 
-// The ms from `since` to `now`, 0 where the clock stands before `since`.
+/// The ms from `since` to `now`, 0 where the clock stands before `since`.
 pub fn elapsed(now: u64, since: u64) -> u64
     ensures { result ≡ elapsed now since }
 {
     if since < now { now - since } else { 0 }
 }
 
-// When the host goes on after a row write: `settle` ms from now, held to the end of 64 bits.
+/// When the host goes on after a row write: `settle` ms from now, held to the end of 64 bits.
 pub fn deadline(now: u64, settle: u64) -> u64
     ensures { result ≡ deadline now settle }
 {
@@ -413,14 +413,14 @@ pub fn deadline(now: u64, settle: u64) -> u64
     }
 }
 
-// One more, held at 255.
+/// One more, held at 255.
 pub fn count_up(n: u8) -> u8
     ensures { result ≡ count_up n }
 {
     if n < 255 { n + 1 } else { n }
 }
 
-// The bit of `seen` that stands for a quantity.
+/// The bit of `seen` that stands for a quantity.
 pub fn bit_of(q: Quantity) -> u8
     ensures { result ≡ bit_of q }
 {
@@ -431,14 +431,14 @@ pub fn bit_of(q: Quantity) -> u8
     }
 }
 
-// Whether a quantity is marked as measured.
+/// Whether a quantity is marked as measured.
 pub fn has_seen(seen: u8, q: Quantity) -> bool
     ensures { result ≡ has_seen seen q }
 {
     seen / bit_of(q) % 2 == 1
 }
 
-// The marks, with this quantity's set.
+/// The marks, with this quantity's set.
 pub fn also_seen(seen: u8, q: Quantity) -> u8
     ensures { result ≡ also_seen seen q }
 {
@@ -448,7 +448,7 @@ pub fn also_seen(seen: u8, q: Quantity) -> u8
     seen + bit_of(q)
 }
 
-// Whether voltage and current are marked.
+/// Whether voltage and current are marked.
 pub fn both_seen(seen: u8) -> bool
     ensures { result ≡ both_seen seen }
 {

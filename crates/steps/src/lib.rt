@@ -1,5 +1,5 @@
-// Module 5 of document 01, steps: what each step of a job measures, what a ready frame says there, and
-// what a step's means come to.
+//! Module 5 of document 01, steps: what each step of a job measures, what a ready frame says there, and
+//! what a step's means come to.
 #![tactic(auto)]
 
 pub mod place;

@@ -1,4 +1,4 @@
-// What each step of a job measures, and how.
+//! What each step of a job measures, and how.
 ghost use Rattle.std.specs.Prelude.{◌≡◌};
 ghost use Rattle.steps.specs.Place.{kind_number, kind_of, layout_of, place_of, drops_of, settle_of, stat_of, ready, step_ranges};
 
@@ -9,31 +9,31 @@ use tables::constants::{
     VCAL_DC_SETTLE_MS,
 };
 
-// The two jobs.
+/// The two jobs.
 #[derive(Clone, Copy)]
 pub enum Kind {
     Zero,
     Gain,
 }
 
-// What a step measures.
+/// What a step measures.
 #[derive(Clone, Copy)]
 pub enum Place {
-    // the zero of the LPF's current, in one current range
+    /// the zero of the LPF's current, in one current range
     ZeroX,
-    // the zero of AD1, in one current range
+    /// the zero of AD1, in one current range
     ZeroD,
-    // the zero of the LPF's voltage
+    /// the zero of the LPF's voltage
     ZeroY,
-    // the V channel less its zero, without its gain
+    /// the V channel less its zero, without its gain
     Raw,
-    // the reference, a DC voltage
+    /// the reference, a DC voltage
     RefDc,
-    // the reference, an AC voltage
+    /// the reference, an AC voltage
     RefAc,
 }
 
-// The number by which the meter knows a kind of job.
+/// The number by which the meter knows a kind of job.
 pub fn kind_number(kind: Kind) -> u8
     ensures { result ≡ kind_number kind }
 {
@@ -43,7 +43,7 @@ pub fn kind_number(kind: Kind) -> u8
     }
 }
 
-// The kind of the running job with this number: 1 is the zero job, any other counts as the gain job.
+/// The kind of the running job with this number: 1 is the zero job, any other counts as the gain job.
 pub fn kind_of(job: u8) -> Kind
     ensures { result ≡ kind_of job }
 {
@@ -54,7 +54,7 @@ pub fn kind_of(job: u8) -> Kind
     }
 }
 
-// What a step measures, in a gain job by its kind of voltage.
+/// What a step measures, in a gain job by its kind of voltage.
 pub fn place_of(kind: Kind, dc: bool, step: u8) -> Place
     ensures { result ≡ place_of (layout_of kind dc) step }
 {
@@ -85,7 +85,7 @@ pub fn place_of(kind: Kind, dc: bool, step: u8) -> Place
     }
 }
 
-// How many ready frames are dropped before three are counted.
+/// How many ready frames are dropped before three are counted.
 pub fn drops_of(place: Place) -> u8
     ensures { result ≡ drops_of place }
 {
@@ -99,7 +99,7 @@ pub fn drops_of(place: Place) -> u8
     }
 }
 
-// How many ms the row settles.
+/// How many ms the row settles.
 pub fn settle_of(place: Place) -> u64
     ensures { result ≡ settle_of place }
 {
@@ -113,7 +113,7 @@ pub fn settle_of(place: Place) -> u64
     }
 }
 
-// `stat` of the step, R34 of the power row. The DC row and the reference rows bring their own R34.
+/// `stat` of the step, R34 of the power row. The DC row and the reference rows bring their own R34.
 pub fn stat_of(place: Place) -> u8
     ensures { result ≡ stat_of place }
 {
@@ -127,7 +127,7 @@ pub fn stat_of(place: Place) -> u8
     }
 }
 
-// Whether a frame with these flags has what the step measures.
+/// Whether a frame with these flags has what the step measures.
 pub fn is_ready(place: Place, flags: u8) -> bool
     ensures { result ≡ ready place flags }
 {
@@ -141,7 +141,7 @@ pub fn is_ready(place: Place, flags: u8) -> bool
     }
 }
 
-// The ranges of a step: the zero job's steps 0 to 11 go through the current ranges twice.
+/// The ranges of a step: the zero job's steps 0 to 11 go through the current ranges twice.
 pub fn step_ranges(kind: Kind, step: u8, found: Ranges) -> Ranges
     ensures { result ≡ step_ranges kind step found }
 {

@@ -1,4 +1,4 @@
-// What a ready frame says at its step, and whether it is a signal where the zero job wants none.
+//! What a ready frame says at its step, and whether it is a signal where the zero job wants none.
 ghost use Rattle.std.specs.Prelude.{◌≡◌};
 ghost use Rattle.steps.specs.Reading.{zeros_in, old_of, raw_reading, ad1_volts, dc_reference, ac_reference, reading_of, distance, lpf_signal, signal};
 
@@ -12,14 +12,14 @@ use tables::decided::AD1_DIV;
 use tables::lookups::{dcv_negk, k_acv, kv};
 use takes::scales::{code_less, rms_root, zero_y};
 
-// The main value and the second value of a frame.
+/// The main value and the second value of a frame.
 #[derive(Clone, Copy)]
 pub struct Reading {
     pub x: f32,
     pub y: f32,
 }
 
-// The stored zero of a step of the zero job, 0 while none is stored.
+/// The stored zero of a step of the zero job, 0 while none is stored.
 pub fn old_zero(corrections: Corrections, step: u8) -> i16
     ensures { result ≡ old_of (zeros_in corrections) step }
 {
@@ -78,7 +78,7 @@ fn ac_reference(calibration: Calibration, vr: u8, root: f32) -> f32
     numbers::max(root * k_acv(vr) * CODE * g - off, 0.0)
 }
 
-// The reading of a frame at a step, in the V range `vr`.
+/// The reading of a frame at a step, in the V range `vr`.
 pub fn reading_of(
     place: Place,
     calibration: Calibration,
@@ -134,7 +134,7 @@ fn lpf_signal(old: i16, codes: Codes) -> bool
     distance(codes.lpf, old) > (ZERO_MAX_LPF as u64)
 }
 
-// Whether a frame is a signal where the zero job wants none; the gain job has no such test.
+/// Whether a frame is a signal where the zero job wants none; the gain job has no such test.
 pub fn is_signal(place: Place, old: i16, codes: Codes) -> bool
     ensures { result ≡ signal place old codes }
 {

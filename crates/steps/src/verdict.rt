@@ -1,4 +1,4 @@
-// What a step's means come to.
+//! What a step's means come to.
 ghost use Rattle.std.specs.Prelude.{◌≡◌};
 ghost use Rattle.steps.specs.Verdict.{zero_mean, is_dc, part, vcal_max, raw_verdict, rounds_differ, ratio_verdict, gain_verdict};
 
@@ -9,29 +9,29 @@ use tables::lookups::v_lim;
 // The root of two, of core's constants.
 const SQRT_2: f32 = 1.41421356;
 
-// Of a raw step.
+/// Of a raw step.
 #[derive(Clone, Copy)]
 pub enum RawVerdict {
-    // too small: the job ends with JR_SMALL
+    /// too small: the job ends with JR_SMALL
     Small,
-    // too large: JR_BIG
+    /// too large: JR_BIG
     Big,
-    // fit to go on with
+    /// fit to go on with
     Fair,
 }
 
-// Of the whole gain job.
+/// Of the whole gain job.
 #[derive(Clone, Copy)]
 pub enum GainVerdict {
-    // the two rounds differ, or the half sum is not finite: JR_UNSTABLE
+    /// the two rounds differ, or the half sum is not finite: JR_UNSTABLE
     Unstable,
-    // the gain does not lie from 0.9 to 1.1: JR_RANGE
+    /// the gain does not lie from 0.9 to 1.1: JR_RANGE
     Outside,
-    // the gain to store: JR_OK
+    /// the gain to store: JR_OK
     Good(f32),
 }
 
-// The zero of a mean: rounded half away from zero, held to 16 bits.
+/// The zero of a mean: rounded half away from zero, held to 16 bits.
 pub fn zero_mean(mean: f32) -> i16
     ensures { result ≡ zero_mean mean }
 {
@@ -39,14 +39,14 @@ pub fn zero_mean(mean: f32) -> i16
     numbers::f32_to_i16(rounded)
 }
 
-// Whether the voltage is DC, by the AC mean a and the DC mean b of step 0.
+/// Whether the voltage is DC, by the AC mean a and the DC mean b of step 0.
 pub fn is_dc(a: f32, b: f32) -> bool
     ensures { result ≡ is_dc a b }
 {
     numbers::abs(b) > a
 }
 
-// The part that counts, DC or AC.
+/// The part that counts, DC or AC.
 pub fn part_of(dc: bool, a: f32, b: f32) -> f32
     ensures { result ≡ part dc a b }
 {
@@ -60,7 +60,7 @@ fn vcal_max(dc: bool) -> f32
     if dc { VCAL_MAX_DC } else { VCAL_MAX_AC }
 }
 
-// The verdict on the means of a raw step in the V range `vr`: small is tested before big.
+/// The verdict on the means of a raw step in the V range `vr`: small is tested before big.
 pub fn raw_verdict(dc: bool, vr: u8, a: f32, b: f32) -> RawVerdict
     ensures { result ≡ raw_verdict dc vr a b }
 {
@@ -110,7 +110,7 @@ fn ratio_verdict(r0: f32, r1: f32, g: f32, steady: bool) -> GainVerdict
     }
 }
 
-// The verdict on the raw means and the references of both rounds.
+/// The verdict on the raw means and the references of both rounds.
 pub fn gain_verdict(raw0: f32, ref0: f32, raw1: f32, ref1: f32) -> GainVerdict
     ensures { result ≡ gain_verdict raw0 ref0 raw1 ref1 }
 {

@@ -1,15 +1,15 @@
-// Numbers held to a bound, and tested against two.
+//! Numbers held to a bound, and tested against two.
 ghost use Rattle.std.specs.Prelude.{◌≡◌};
 ghost use Rattle.tables.specs.Bounds.{at_most, within};
 
-// n, but `most` where n is above it.
+/// n, but `most` where n is above it.
 pub fn at_most(most: u8, n: u8) -> u8
     ensures { result ≡ at_most most n }
 {
     if n < most { n } else { most }
 }
 
-// Whether x lies from `least` to `most`, ends allowed; a NaN does not.
+/// Whether x lies from `least` to `most`, ends allowed; a NaN does not.
 pub fn within(least: f32, most: f32, x: f32) -> bool
     ensures { result ≡ within least most x }
 {

@@ -1,4 +1,4 @@
-// The calibration words, what the source reads of them, and the V channel's gain.
+//! The calibration words, what the source reads of them, and the V channel's gain.
 ghost use Rattle.std.specs.Prelude.{◌≡◌};
 ghost use Rattle.tables.specs.Calibration.{calibration_of, cal, factor, offset};
 ghost use Rattle.tables.specs.Gain.{plausible, factory_words, v_gain_factory, v_gain};
@@ -9,7 +9,7 @@ use refusals::Refusal;
 // How many words a calibration has.
 const WORDS: usize = 73;
 
-// 73 words of 32 bits and a valid mark.
+/// 73 words of 32 bits and a valid mark.
 #[derive(Clone, Copy)]
 #[repr(C)]
 pub struct Calibration {
@@ -17,15 +17,15 @@ pub struct Calibration {
     pub valid: bool,
 }
 
-// Refusal 8, or done with the calibration.
+/// Refusal 8, or done with the calibration.
 #[derive(Clone, Copy)]
 pub struct CalibrationAnswer {
     pub refusal: Refusal,
     pub calibration: Calibration,
 }
 
-// The lent words, which are only read, with their mark. Refused where they are not 73; the
-// calibration is then one of zeros with the mark off.
+/// The lent words, which are only read, with their mark. Refused where they are not 73; the
+/// calibration is then one of zeros with the mark off.
 pub fn calibration_of(words: &[u32], valid: bool) -> CalibrationAnswer
     ensures { result ≡ calibration_of words.now valid }
 {
@@ -50,9 +50,9 @@ pub fn calibration_of(words: &[u32], valid: bool) -> CalibrationAnswer
     }
 }
 
-// The number whose bits stand in the word that has byte `at`, or the default where the mark is off,
-// where there is no such word, or where the number is not finite or not below 1.0e6 in size. Bits
-// whose exponent field is all ones are an infinity's or a NaN's, and are not read as a number.
+/// The number whose bits stand in the word that has byte `at`, or the default where the mark is off,
+/// where there is no such word, or where the number is not finite or not below 1.0e6 in size. Bits
+/// whose exponent field is all ones are an infinity's or a NaN's, and are not read as a number.
 pub fn cal(calibration: Calibration, at: u32, default: f32) -> f32
     ensures { result ≡ cal calibration at default }
 {
@@ -71,21 +71,21 @@ pub fn cal(calibration: Calibration, at: u32, default: f32) -> f32
     if numbers::abs(x) < 1.0e6 { x } else { default }
 }
 
-// A word that the source multiplies or divides by: 1.0 stands for one that is not there.
+/// A word that the source multiplies or divides by: 1.0 stands for one that is not there.
 pub fn factor(calibration: Calibration, at: u32) -> f32
     ensures { result ≡ factor calibration at }
 {
     cal(calibration, at, 1.0)
 }
 
-// A word that the source takes away: 0.0 stands for one that is not there.
+/// A word that the source takes away: 0.0 stands for one that is not there.
 pub fn offset(calibration: Calibration, at: u32) -> f32
     ensures { result ≡ offset calibration at }
 {
     cal(calibration, at, 0.0)
 }
 
-// Whether a gain lies from 0.9 to 1.1.
+/// Whether a gain lies from 0.9 to 1.1.
 pub fn plausible(g: f32) -> bool
     ensures { result ≡ plausible g }
 {
@@ -102,8 +102,8 @@ fn factory_words(calibration: Calibration, r: u8) -> f32
     factor(calibration, 0x34 + 4 * (r as u32))
 }
 
-// The V channel's gain by the factory's words, or 1.0 where that is not plausible. A range above 3
-// counts as 3.
+/// The V channel's gain by the factory's words, or 1.0 where that is not plausible. A range above 3
+/// counts as 3.
 pub fn v_gain_factory(calibration: Calibration, vr: u8) -> f32
     ensures { result ≡ v_gain_factory calibration vr }
 {
@@ -111,7 +111,7 @@ pub fn v_gain_factory(calibration: Calibration, vr: u8) -> f32
     if plausible(g) { g } else { 1.0 }
 }
 
-// The gain in force for a range: the stored one where it is above zero, else the factory's.
+/// The gain in force for a range: the stored one where it is above zero, else the factory's.
 pub fn v_gain(calibration: Calibration, vgain: [f32; 4], vr: u8) -> f32
     ensures { result ≡ v_gain calibration vgain vr }
 {

@@ -1,6 +1,6 @@
-// The source's constants, under its names. `float_constants`, `chip_constants` and `state_constants`
-// list the constants themselves, so their contracts say the value of each; tests/constants.sh
-// compares them with the published text.
+//! The source's constants, under its names. `float_constants`, `chip_constants` and `state_constants`
+//! list the constants themselves, so their contracts say the value of each; tests/constants.sh
+//! compares them with the published text.
 ghost use Rattle.std.specs.Prelude.{◌≡◌};
 ghost use Rattle.tables.specs.Constants.{float_constants, chip_constants, state_constants};
 
@@ -8,39 +8,39 @@ use crate::decided::{AD1_DIV, FLOOR_V};
 
 // ---- ranges and scales
 
-// The V ranges, in volts.
+/// The V ranges, in volts.
 pub const V_LIM: [f32; 4] = [6.0, 60.0, 600.0, 1000.0];
 
-// The I ranges, low to high, in amperes.
+/// The I ranges, low to high, in amperes.
 pub const I_LIM: [f32; 6] = [600e-6, 6e-3, 0.06, 0.6, 6.0, 10.0];
 
-// The shunt of each current unit (A, mA, uA), in ohms. It is not the description's `shunt`.
+/// The shunt of each current unit (A, mA, uA), in ohms. It is not the description's `shunt`.
 pub const SHUNT_OHM: [f32; 3] = [0.01, 0.5, 47.5];
 
-// Volts at the jack for a volt at the V channel's converter, by V range.
+/// Volts at the jack for a volt at the V channel's converter, by V range.
 pub const KV: [f32; 4] = [10.0, 100.0, 1000.0, 10_000.0];
 
-// Volts of one RMS root or LPF code.
+/// Volts of one RMS root or LPF code.
 pub const CODE: f32 = 1.25 / 262_144.0;
 
 // ---- the chip's registers
 
-// R34: the sum of X * Y, of X * X, of Y * Y.
+/// R34: the sum of X * Y, of X * X, of Y * Y.
 pub const R34_XY: u8 = 0x88;
 
 pub const R34_XX: u8 = 0x80;
 
 pub const R34_YY: u8 = 0x8C;
 
-// R34 by phase in the simultaneous method.
+/// R34 by phase in the simultaneous method.
 pub const CYCLE: [u8; 4] = [R34_XY, R34_YY, R34_XY, R34_XX];
 
-// R20, the comparator's source: the V tap, the current.
+/// R20, the comparator's source: the V tap, the current.
 pub const R20_SENSE: u8 = 0x10;
 
 pub const R20_PB4: u8 = 0xF0;
 
-// R21, the comparator's window where none was chosen.
+/// R21, the comparator's window where none was chosen.
 pub const R21_DEFAULT: u8 = 0xDD;
 
 // ---- times in ms, and results dropped or counted
@@ -51,7 +51,7 @@ pub const ALT_V_SETTLE_MS: u64 = 600;
 
 pub const VCAL_AC_SETTLE_MS: u64 = 2000;
 
-// The DC reference's; the source has the number without a name.
+/// The DC reference's; the source has the number without a name.
 pub const VCAL_DC_SETTLE_MS: u64 = 450;
 
 pub const DISC_DEFAULT: u8 = 2;
@@ -162,7 +162,7 @@ pub const CAL_PF_MAX: f32 = 0.32;
 
 // ---- every constant that is one number, in the order above
 
-// The floats, the two decided ones last.
+/// The floats, the two decided ones last.
 pub fn float_constants() -> [f32; 15]
     ensures { result ≡ float_constants }
 {
@@ -185,7 +185,7 @@ pub fn float_constants() -> [f32; 15]
     ]
 }
 
-// The whole numbers that have to do with the chip: registers, times, counts, the limit's seconds.
+/// The whole numbers that have to do with the chip: registers, times, counts, the limit's seconds.
 pub fn chip_constants() -> [u64; 18]
     ensures { result ≡ chip_constants }
 {
@@ -211,7 +211,7 @@ pub fn chip_constants() -> [u64; 18]
     ]
 }
 
-// Those that the meter's state holds, with the zero job's bounds.
+/// Those that the meter's state holds, with the zero job's bounds.
 pub fn state_constants() -> [u64; 28]
     ensures { result ≡ state_constants }
 {

@@ -1,4 +1,4 @@
-// What a meter is told of its hardware.
+//! What a meter is told of its hardware.
 ghost use Rattle.std.specs.Prelude.{◌≡◌};
 ghost use Rattle.tables.specs.Bounds.{every};
 ghost use Rattle.tables.specs.Description.{in_bounds, description_refusal};
@@ -9,13 +9,13 @@ use refusals::Refusal;
 #[derive(Clone, Copy)]
 #[repr(C)]
 pub struct Description {
-    // the source's `MV_DIV`, by gain index
+    /// the source's `MV_DIV`, by gain index
     pub mv_div: [f32; 2],
-    // the source's `SHUNT`, by current unit; it is not `SHUNT_OHM`
+    /// the source's `SHUNT`, by current unit; it is not `SHUNT_OHM`
     pub shunt: [f32; 3],
-    // the source's `over()`
+    /// the source's `over()`
     pub over: f32,
-    // whether `a_auto` is 1
+    /// whether `a_auto` is 1
     pub a_auto: bool,
 }
 
@@ -44,7 +44,7 @@ fn all_in_bounds(xs: &[f32]) -> bool
     true
 }
 
-// Refusal 7 unless each of the six numbers is in bounds.
+/// Refusal 7 unless each of the six numbers is in bounds.
 pub fn description_refusal(d: Description) -> Refusal
     ensures { result ≡ description_refusal d }
 {

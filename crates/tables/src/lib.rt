@@ -1,5 +1,5 @@
-// Module 2 of document 01: limits, rows, windows, gains. What the source keeps in constants and in
-// its calibration record, and the choices that it makes from them.
+//! Module 2 of document 01: limits, rows, windows, gains. What the source keeps in constants and in
+//! its calibration record, and the choices that it makes from them.
 #![tactic(auto)]
 
 pub mod bounds;

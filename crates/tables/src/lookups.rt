@@ -1,4 +1,4 @@
-// The tables by index. An index past the end is held to the last entry; only CYCLE goes round.
+//! The tables by index. An index past the end is held to the last entry; only CYCLE goes round.
 ghost use Rattle.std.specs.Prelude.{◌≡◌, ◌<◌, length};
 ghost use Rattle.std.specs.Float.{nan};
 ghost use Rattle.tables.specs.Bounds.{entry_at};
@@ -21,63 +21,63 @@ fn entry(table: &[f32], k: u8) -> f32
     }
 }
 
-// The volts of a V range.
+/// The volts of a V range.
 pub fn v_lim(vr: u8) -> f32
     ensures { result ≡ entry_at nan v_lim vr }
 {
     entry(&V_LIM, vr)
 }
 
-// The amperes of an I range.
+/// The amperes of an I range.
 pub fn i_lim(ik: u8) -> f32
     ensures { result ≡ entry_at nan i_lim ik }
 {
     entry(&I_LIM, ik)
 }
 
-// The ohms of the shunt of a current unit.
+/// The ohms of the shunt of a current unit.
 pub fn shunt_ohm(iu: u8) -> f32
     ensures { result ≡ entry_at nan shunt_ohm iu }
 {
     entry(&SHUNT_OHM, iu)
 }
 
-// Volts at the jack for a volt at the V channel's converter.
+/// Volts at the jack for a volt at the V channel's converter.
 pub fn kv(vr: u8) -> f32
     ensures { result ≡ entry_at nan kv vr }
 {
     entry(&KV, vr)
 }
 
-// The same in the AC V rows.
+/// The same in the AC V rows.
 pub fn k_acv(vr: u8) -> f32
     ensures { result ≡ entry_at nan k_acv vr }
 {
     entry(&K_ACV, vr)
 }
 
-// What a negative DC voltage is multiplied by.
+/// What a negative DC voltage is multiplied by.
 pub fn dcv_negk(vr: u8) -> f32
     ensures { result ≡ entry_at nan dcv_negk vr }
 {
     entry(&DCV_NEGK, vr)
 }
 
-// The jump window of a V range's smoothing, in volts.
+/// The jump window of a V range's smoothing, in volts.
 pub fn acv_win(vr: u8) -> f32
     ensures { result ≡ entry_at nan acv_win vr }
 {
     entry(&ACV_WIN, vr)
 }
 
-// The jump window of a current's smoothing, in A, mA or uA: by calibration index, not by range.
+/// The jump window of a current's smoothing, in A, mA or uA: by calibration index, not by range.
 pub fn aca_win(ci: u8) -> f32
     ensures { result ≡ entry_at nan aca_win ci }
 {
     entry(&ACA_WIN, ci)
 }
 
-// R34 in a phase of the simultaneous method.
+/// R34 in a phase of the simultaneous method.
 pub fn cycle(phase: u8) -> u8
     ensures { result ≡ cycle_at phase }
 {

@@ -1,19 +1,19 @@
-// Numbers that the source makes of a range, a coupling or a phase step.
+//! Numbers that the source makes of a range, a coupling or a phase step.
 ghost use Rattle.std.specs.Prelude.{◌≡◌};
 ghost use Rattle.tables.specs.Ranges.{iu_ir, cal_index, coup_of, next_coupling, r36_of};
 
 use crate::bounds::at_most;
 use crate::constants::{COUP_AC, COUP_ACDC, COUP_DC};
 
-// The unit of a current range (0 A, 1 mA, 2 uA) and its amplifier's gain index (0 times ten, 1 times
-// one).
+/// The unit of a current range (0 A, 1 mA, 2 uA) and its amplifier's gain index (0 times ten, 1 times
+/// one).
 #[derive(Clone, Copy)]
 pub struct IuIr {
     pub iu: u8,
     pub ir: u8,
 }
 
-// Of current range k, where a range above 5 counts as 5.
+/// Of current range k, where a range above 5 counts as 5.
 pub fn iu_ir(k: u8) -> IuIr
     ensures { result ≡ iu_ir k }
 {
@@ -24,7 +24,7 @@ pub fn iu_ir(k: u8) -> IuIr
     }
 }
 
-// The place of current range k among six calibration words: they go by unit, not by range.
+/// The place of current range k among six calibration words: they go by unit, not by range.
 pub fn cal_index(k: u8) -> u8
     ensures { result ≡ cal_index k }
 {
@@ -32,7 +32,7 @@ pub fn cal_index(k: u8) -> u8
     u.iu * 2 + u.ir
 }
 
-// The coupling that a stored or asked number means: its low two bits, with 2 for AC+DC.
+/// The coupling that a stored or asked number means: its low two bits, with 2 for AC+DC.
 pub fn coup_of(c: u32) -> u8
     ensures { result ≡ coup_of c }
 {
@@ -43,7 +43,7 @@ pub fn coup_of(c: u32) -> u8
     }
 }
 
-// The next coupling in the order DC, AC, AC+DC; DC after any other number.
+/// The next coupling in the order DC, AC, AC+DC; DC after any other number.
 pub fn next_coupling(c: u8) -> u8
     ensures { result ≡ next_coupling c }
 {
@@ -54,7 +54,7 @@ pub fn next_coupling(c: u8) -> u8
     }
 }
 
-// R36 of a signed number of phase steps: the size, at most 127, and bit 7 where it is above zero.
+/// R36 of a signed number of phase steps: the size, at most 127, and bit 7 where it is above zero.
 pub fn r36_of(steps: i8) -> u8
     ensures { result ≡ r36_of steps }
 {

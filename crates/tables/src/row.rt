@@ -1,4 +1,4 @@
-// The kind of row that the host writes to the chip at a mark. The rows' bytes are not in the text.
+//! The kind of row that the host writes to the chip at a mark. The rows' bytes are not in the text.
 ghost use Rattle.std.specs.Prelude.{◌≡◌};
 ghost use Rattle.tables.specs.Row.{is_dc, is_reference, row_kind, row_number};
 
@@ -6,17 +6,17 @@ use crate::constants::{JOB_VCAL, JOB_ZERO};
 
 #[derive(Clone, Copy)]
 pub enum RowKind {
-    // the simultaneous method's, with R34 from `stat`
+    /// the simultaneous method's, with R34 from `stat`
     Power,
-    // current on AD1 and voltage on LPF at the same time
+    /// current on AD1 and voltage on LPF at the same time
     Dc,
-    // the alternating method's V phase
+    /// the alternating method's V phase
     AltV,
-    // its I phase
+    /// its I phase
     AltI,
-    // the gain job's reference, a DC voltage
+    /// the gain job's reference, a DC voltage
     DcReference,
-    // the gain job's reference, an AC voltage
+    /// the gain job's reference, an AC voltage
     AcReference,
 }
 
@@ -47,8 +47,8 @@ fn is_reference(job: u8, step: u8) -> bool
     }
 }
 
-// Of the method (`alt`), the coupling in force (`dc`), the job and its step, the reference's kind
-// (`job_dc`) and the phase.
+/// Of the method (`alt`), the coupling in force (`dc`), the job and its step, the reference's kind
+/// (`job_dc`) and the phase.
 pub fn row_kind(alt: bool, dc: bool, job: u8, step: u8, job_dc: bool, phase: u8) -> RowKind
     ensures { result ≡ row_kind alt dc job step job_dc phase }
 {
@@ -70,7 +70,7 @@ pub fn row_kind(alt: bool, dc: bool, job: u8, step: u8, job_dc: bool, phase: u8)
     RowKind::Power
 }
 
-// The number by which the host knows a kind.
+/// The number by which the host knows a kind.
 pub fn row_number(kind: RowKind) -> u8
     ensures { result ≡ row_number kind }
 {

@@ -1,4 +1,4 @@
-// The comparator's window: the two tables of thresholds, and one rule over both.
+//! The comparator's window: the two tables of thresholds, and one rule over both.
 ghost use Rattle.std.specs.Prelude.{◌≡◌, length};
 ghost use Rattle.tables.specs.Window.{away, clears, nearer, picked, walk, inside, FourBits, joined, cmp_window};
 
@@ -25,14 +25,14 @@ pub enum Side {
     Lower,
 }
 
-// The nearest entry so far.
+/// The nearest entry so far.
 #[derive(Clone, Copy)]
 pub enum Pick {
     NoEntry,
     Entry(u8, f32),
 }
 
-// What the choice answers: none, or R21's code.
+/// What the choice answers: none, or R21's code.
 #[derive(Clone, Copy)]
 pub enum Window {
     NoWindow,
@@ -130,9 +130,9 @@ fn joined(c: f32, a: f32, up: Pick, down: Pick) -> Window
     }
 }
 
-// R21 for a comparator whose input has its middle (its DC part) at c volts and swings by a volts (the
-// AC part's RMS): the nearest threshold on each side that clears the middle, where both lie within
-// 0.9 of the swing.
+/// R21 for a comparator whose input has its middle (its DC part) at c volts and swings by a volts (the
+/// AC part's RMS): the nearest threshold on each side that clears the middle, where both lie within
+/// 0.9 of the swing.
 pub fn cmp_window(c: f32, a: f32) -> Window
     ensures { result ≡ cmp_window c a }
 {

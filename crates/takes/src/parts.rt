@@ -1,5 +1,5 @@
-// The smoothed values after a result: a value is stored as it is while its quantity is not marked in
-// `seen`, else smoothed by `ema`. Each function changes only the parts that it names.
+//! The smoothed values after a result: a value is stored as it is while its quantity is not marked in
+//! `seen`, else smoothed by `ema`. Each function changes only the parts that it names.
 ghost use Rattle.std.specs.Prelude.{◌≡◌};
 ghost use Rattle.takes.specs.Parts.{smoothed, smoothed_power, xy_parts, i_parts, v_parts, alt_v_parts, dc_v_parts, dc_i_parts};
 
@@ -28,7 +28,7 @@ fn smoothed_power(later: bool, ranges: Ranges, x: f32, y: f32) -> f32
     x
 }
 
-// After XY: the AC power, and the DC current.
+/// After XY: the AC power, and the DC current.
 pub(crate) fn xy_parts(ranges: Ranges, seen: u8, p: f32, i_dc: f32, parts: Parts) -> Parts
     ensures { result ≡ xy_parts ranges seen p i_dc parts }
 {
@@ -41,7 +41,7 @@ pub(crate) fn xy_parts(ranges: Ranges, seen: u8, p: f32, i_dc: f32, parts: Parts
     after
 }
 
-// After XX or the alternating method's current: both parts of the current.
+/// After XX or the alternating method's current: both parts of the current.
 pub(crate) fn i_parts(ik: u8, seen: u8, i_ac: f32, i_dc: f32, parts: Parts) -> Parts
     ensures { result ≡ i_parts ik seen i_ac i_dc parts }
 {
@@ -55,7 +55,7 @@ pub(crate) fn i_parts(ik: u8, seen: u8, i_ac: f32, i_dc: f32, parts: Parts) -> P
     after
 }
 
-// After YY: both parts of the voltage.
+/// After YY: both parts of the voltage.
 pub(crate) fn v_parts(vr: u8, seen: u8, v_ac: f32, v_dc: f32, parts: Parts) -> Parts
     ensures { result ≡ v_parts vr seen v_ac v_dc parts }
 {
@@ -69,7 +69,7 @@ pub(crate) fn v_parts(vr: u8, seen: u8, v_ac: f32, v_dc: f32, parts: Parts) -> P
     after
 }
 
-// After the alternating method's voltage: the AC part; the DC part becomes 0.
+/// After the alternating method's voltage: the AC part; the DC part becomes 0.
 pub(crate) fn alt_v_parts(vr: u8, seen: u8, v_ac: f32, parts: Parts) -> Parts
     ensures { result ≡ alt_v_parts vr seen v_ac parts }
 {
@@ -81,7 +81,7 @@ pub(crate) fn alt_v_parts(vr: u8, seen: u8, v_ac: f32, parts: Parts) -> Parts
     after
 }
 
-// After the DC row's voltage: the DC part, and its AC volts in `vac_dc`; the AC part becomes 0.
+/// After the DC row's voltage: the DC part, and its AC volts in `vac_dc`; the AC part becomes 0.
 pub(crate) fn dc_v_parts(vr: u8, seen: u8, v_dc: f32, vac_dc: f32, parts: Parts) -> Parts
     ensures { result ≡ dc_v_parts vr seen v_dc vac_dc parts }
 {
@@ -96,7 +96,7 @@ pub(crate) fn dc_v_parts(vr: u8, seen: u8, v_dc: f32, vac_dc: f32, parts: Parts)
     after
 }
 
-// After the DC row's current: the DC part; the AC part and the AC power become 0.
+/// After the DC row's current: the DC part; the AC part and the AC power become 0.
 pub(crate) fn dc_i_parts(ik: u8, seen: u8, i_dc: f32, parts: Parts) -> Parts
     ensures { result ≡ dc_i_parts ik seen i_dc parts }
 {

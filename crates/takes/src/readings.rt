@@ -1,5 +1,5 @@
-// What a conversion's codes say before any smoothing, in V, A and W, each in the source's order of
-// operations.
+//! What a conversion's codes say before any smoothing, in V, A and W, each in the source's order of
+//! operations.
 ghost use Rattle.std.specs.Prelude.{◌≡◌};
 ghost use Rattle.takes.specs.Readings.{ac_volts, dc_volts, power, ac_amps, dc_amps, alt_volts, alt_amps, alt_dc_amps, ad1_offset, ad1_amps};
 
@@ -15,21 +15,21 @@ use tables::description::Description;
 use tables::lookups::k_acv;
 use tables::ranges::{cal_index, iu_ir};
 
-// AC volts of the RMS root, at this gain.
+/// AC volts of the RMS root, at this gain.
 pub(crate) fn ac_volts(root: f32, vr: u8, gain: f32) -> f32
     ensures { result ≡ ac_volts root vr gain }
 {
     root * v_scale(vr, gain)
 }
 
-// DC volts of the LPF code, at this zero and gain.
+/// DC volts of the LPF code, at this zero and gain.
 pub(crate) fn dc_volts(lpf: i32, zero: i16, vr: u8, gain: f32) -> f32
     ensures { result ≡ dc_volts lpf zero vr gain }
 {
     code_less(lpf, zero) * v_scale(vr, gain)
 }
 
-// Watts of the RMS code of X * Y.
+/// Watts of the RMS code of X * Y.
 pub(crate) fn power(with: Instrument, ranges: Ranges, rms: i64) -> f32
     ensures { result ≡ power with ranges rms }
 {
@@ -41,14 +41,14 @@ pub(crate) fn power(with: Instrument, ranges: Ranges, rms: i64) -> f32
     numbers::i64_to_f32(rms) * i_scale(description, ik) * g_i(calibration, ik) * v_scale(vr, g)
 }
 
-// AC amperes of the RMS root.
+/// AC amperes of the RMS root.
 pub(crate) fn ac_amps(description: Description, calibration: Calibration, ik: u8, root: f32) -> f32
     ensures { result ≡ ac_amps description calibration ik root }
 {
     root * i_scale(description, ik) * g_i(calibration, ik)
 }
 
-// DC amperes of the LPF code.
+/// DC amperes of the LPF code.
 pub(crate) fn dc_amps(with: Instrument, ik: u8, lpf: i32) -> f32
     ensures { result ≡ dc_amps with ik lpf }
 {
@@ -59,7 +59,7 @@ pub(crate) fn dc_amps(with: Instrument, ik: u8, lpf: i32) -> f32
     code * i_scale(description, ik) * g_il(calibration, ik)
 }
 
-// AC volts of the RMS root in the alternating method.
+/// AC volts of the RMS root in the alternating method.
 pub(crate) fn alt_volts(calibration: Calibration, vr: u8, root: f32) -> f32
     ensures { result ≡ alt_volts calibration vr root }
 {
@@ -70,7 +70,7 @@ pub(crate) fn alt_volts(calibration: Calibration, vr: u8, root: f32) -> f32
     numbers::max(root * s * g - off, 0.0)
 }
 
-// AC amperes of the RMS root in the alternating method.
+/// AC amperes of the RMS root in the alternating method.
 pub(crate) fn alt_amps(description: Description, calibration: Calibration, ik: u8, root: f32) -> f32
     ensures { result ≡ alt_amps description calibration ik root }
 {
@@ -83,7 +83,7 @@ pub(crate) fn alt_amps(description: Description, calibration: Calibration, ik: u
     )
 }
 
-// DC amperes of the LPF code in the alternating method: no zero is taken off.
+/// DC amperes of the LPF code in the alternating method: no zero is taken off.
 pub(crate) fn alt_dc_amps(
     description: Description,
     calibration: Calibration,
@@ -110,7 +110,7 @@ fn ad1_offset(calibration: Calibration, zero_ok: bool, ik: u8) -> f32
     offset(calibration, 0xAC + 4 * (ci as u32))
 }
 
-// DC amperes of the AD1 code. Here the description's `SHUNT` counts.
+/// DC amperes of the AD1 code. Here the description's `SHUNT` counts.
 pub(crate) fn ad1_amps(with: Instrument, ik: u8, ad1: i32) -> f32
     ensures { result ≡ ad1_amps with ik ad1 }
 {

@@ -1,5 +1,5 @@
-// What codes are multiplied by, and the zeros that are taken off them. Zeros go by current range,
-// words and windows by calibration index, shunts by unit, dividers by gain index.
+//! What codes are multiplied by, and the zeros that are taken off them. Zeros go by current range,
+//! words and windows by calibration index, shunts by unit, dividers by gain index.
 ghost use Rattle.std.specs.Prelude.{◌≡◌};
 ghost use Rattle.takes.specs.Scales.{us, mv_div, shunt, i_scale, v_scale, g_i, g_il, i_win, zero_x, zero_d, zero_y, code_less, rms_root, gain};
 
@@ -11,7 +11,7 @@ use tables::description::Description;
 use tables::lookups::{aca_win, kv, shunt_ohm};
 use tables::ranges::{cal_index, iu_ir};
 
-// What a reading is worked out with: description, calibration words, and stored corrections.
+/// What a reading is worked out with: description, calibration words, and stored corrections.
 #[derive(Clone, Copy)]
 #[repr(C)]
 pub struct Instrument {
@@ -20,7 +20,7 @@ pub struct Instrument {
     pub corrections: Corrections,
 }
 
-// The amperes of a unit: A, mA, uA.
+/// The amperes of a unit: A, mA, uA.
 pub(crate) fn us(iu: u8) -> f32
     ensures { result ≡ us iu }
 {
@@ -31,7 +31,7 @@ pub(crate) fn us(iu: u8) -> f32
     }
 }
 
-// The description's `MV_DIV` of a current range, by its gain index.
+/// The description's `MV_DIV` of a current range, by its gain index.
 pub fn mv_div(description: Description, ik: u8) -> f32
     ensures { result ≡ mv_div description ik }
 {
@@ -40,7 +40,7 @@ pub fn mv_div(description: Description, ik: u8) -> f32
     divs[u.ir as usize]
 }
 
-// The description's `SHUNT` of a current range, by its unit. It is not `SHUNT_OHM`.
+/// The description's `SHUNT` of a current range, by its unit. It is not `SHUNT_OHM`.
 pub(crate) fn shunt(description: Description, ik: u8) -> f32
     ensures { result ≡ shunt description ik }
 {
@@ -49,7 +49,7 @@ pub(crate) fn shunt(description: Description, ik: u8) -> f32
     shunts[u.iu as usize]
 }
 
-// Amperes of one code of the RMS root or the LPF.
+/// Amperes of one code of the RMS root or the LPF.
 pub(crate) fn i_scale(description: Description, ik: u8) -> f32
     ensures { result ≡ i_scale description ik }
 {
@@ -57,14 +57,14 @@ pub(crate) fn i_scale(description: Description, ik: u8) -> f32
     CODE / (shunt_ohm(u.iu) * mv_div(description, ik))
 }
 
-// Volts of one code of the RMS root or the LPF, at this gain.
+/// Volts of one code of the RMS root or the LPF, at this gain.
 pub(crate) fn v_scale(vr: u8, gain: f32) -> f32
     ensures { result ≡ v_scale vr gain }
 {
     CODE * kv(vr) * gain
 }
 
-// The V channel's gain in force.
+/// The V channel's gain in force.
 pub fn gain(with: Instrument, vr: u8) -> f32
     ensures { result ≡ gain with vr }
 {
@@ -73,7 +73,7 @@ pub fn gain(with: Instrument, vr: u8) -> f32
     v_gain(calibration, vgain, vr)
 }
 
-// The factor of the RMS root's amperes.
+/// The factor of the RMS root's amperes.
 pub(crate) fn g_i(calibration: Calibration, ik: u8) -> f32
     ensures { result ≡ g_i calibration ik }
 {
@@ -81,7 +81,7 @@ pub(crate) fn g_i(calibration: Calibration, ik: u8) -> f32
     factor(calibration, 0xC4 + 4 * (ci as u32))
 }
 
-// The factor of the LPF's amperes: its own word, but the RMS root's where that is just 1.0.
+/// The factor of the LPF's amperes: its own word, but the RMS root's where that is just 1.0.
 pub(crate) fn g_il(calibration: Calibration, ik: u8) -> f32
     ensures { result ≡ g_il calibration ik }
 {
@@ -93,7 +93,7 @@ pub(crate) fn g_il(calibration: Calibration, ik: u8) -> f32
     g
 }
 
-// The jump window of a current range's smoothing, in amperes.
+/// The jump window of a current range's smoothing, in amperes.
 pub(crate) fn i_win(ik: u8) -> f32
     ensures { result ≡ i_win ik }
 {
@@ -102,7 +102,7 @@ pub(crate) fn i_win(ik: u8) -> f32
     aca_win(ci) * us(u.iu)
 }
 
-// The zero of the LPF's current in a current range, 0 while none is stored.
+/// The zero of the LPF's current in a current range, 0 while none is stored.
 pub(crate) fn zero_x(corrections: Corrections, ik: u8) -> i16
     ensures { result ≡ zero_x corrections ik }
 {
@@ -111,7 +111,7 @@ pub(crate) fn zero_x(corrections: Corrections, ik: u8) -> i16
     if corrections.zero_ok { zx[k] } else { 0 }
 }
 
-// The zero of AD1 in a current range, 0 while none is stored.
+/// The zero of AD1 in a current range, 0 while none is stored.
 pub(crate) fn zero_d(corrections: Corrections, ik: u8) -> i16
     ensures { result ≡ zero_d corrections ik }
 {
@@ -120,7 +120,7 @@ pub(crate) fn zero_d(corrections: Corrections, ik: u8) -> i16
     if corrections.zero_ok { zd[k] } else { 0 }
 }
 
-// The zero of the LPF's voltage, 0 while none is stored.
+/// The zero of the LPF's voltage, 0 while none is stored.
 pub fn zero_y(corrections: Corrections) -> i16
     ensures { result ≡ zero_y corrections }
 {
@@ -131,14 +131,14 @@ pub fn zero_y(corrections: Corrections) -> i16
     }
 }
 
-// A code less its zero, as a float.
+/// A code less its zero, as a float.
 pub fn code_less(code: i32, zero: i16) -> f32
     ensures { result ≡ code_less code zero }
 {
     numbers::i64_to_f32((code as i64) - (zero as i64))
 }
 
-// The root of the RMS code; one below zero counts as zero.
+/// The root of the RMS code; one below zero counts as zero.
 pub fn rms_root(rms: i64) -> f32
     ensures { result ≡ rms_root rms }
 {

@@ -1,4 +1,4 @@
-// One result of each kind: turned down and nothing changes, or taken.
+//! One result of each kind: turned down and nothing changes, or taken.
 ghost use Rattle.std.specs.Prelude.{◌≡◌};
 ghost use Rattle.takes.specs.Take.{xy_too_large, root_too_large, phase_counted, take_xy, take_xx, take_yy, take, take_alt_v, take_alt_i, take_alt, dc_v_taken, seen_with_power, dc_i_taken};
 
@@ -11,7 +11,7 @@ use codes::Codes;
 use state::{Parts, PhaseCal, Quantity, Ranges, also_seen, both_seen, count_up};
 use tables::constants::{R34_XX, R34_XY, R34_YY};
 
-// What a result may change.
+/// What a result may change.
 #[derive(Clone, Copy)]
 #[repr(C)]
 pub struct Measured {
@@ -20,7 +20,7 @@ pub struct Measured {
     pub phase_cal: PhaseCal,
 }
 
-// Whether a result was taken, and what stands after it.
+/// Whether a result was taken, and what stands after it.
 #[derive(Clone, Copy)]
 #[repr(C)]
 pub struct Taken {
@@ -146,7 +146,7 @@ fn take_yy(with: Instrument, vr: u8, codes: Codes, before: Measured) -> Taken
     }
 }
 
-// Method B: one result, by R34. Any other R34 is turned down.
+/// Method B: one result, by R34. Any other R34 is turned down.
 pub fn take(with: Instrument, ranges: Ranges, stat: u8, codes: Codes, before: Measured) -> Taken
     ensures { result ≡ take with ranges stat codes before }
 {
@@ -192,7 +192,7 @@ fn take_alt_i(with: Instrument, ik: u8, root: f32, lpf: i32, before: Measured) -
     }
 }
 
-// The alternating method: voltage in even phases, current in odd ones.
+/// The alternating method: voltage in even phases, current in odd ones.
 pub fn take_alt(
     with: Instrument,
     ranges: Ranges,
@@ -223,7 +223,7 @@ pub fn take_alt(
     }
 }
 
-// The DC row's voltage. Nothing is turned down.
+/// The DC row's voltage. Nothing is turned down.
 pub fn dc_v_taken(with: Instrument, vr: u8, codes: Codes, before: Measured) -> Measured
     ensures { result ≡ dc_v_taken with vr codes before }
 {
@@ -250,7 +250,7 @@ fn seen_with_power(seen: u8) -> u8
     seen
 }
 
-// The DC row's current, of AD1.
+/// The DC row's current, of AD1.
 pub fn dc_i_taken(with: Instrument, ik: u8, codes: Codes, before: Measured) -> Measured
     ensures { result ≡ dc_i_taken with ik codes before }
 {

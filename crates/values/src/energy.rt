@@ -1,4 +1,4 @@
-// The energies and the time counted, as they are shown.
+//! The energies and the time counted, as they are shown.
 ghost use Rattle.std.specs.Prelude.{◌≡◌};
 ghost use Rattle.values.specs.Energy.{mean_power, energies};
 
@@ -20,7 +20,7 @@ fn mean_power(active: bool, wh: f32, t_int: u64) -> f32
     numbers::nan()
 }
 
-// Both energies, the seconds, of which the low 32 bits count, and the mean power.
+/// Both energies, the seconds, of which the low 32 bits count, and the mean power.
 pub(crate) fn energies(active: bool, tally: Tally) -> Energies
     ensures { result ≡ energies active tally }
 {

@@ -1,4 +1,4 @@
-// The AC floors: an AC part below its floor is noise, and no reading.
+//! The AC floors: an AC part below its floor is noise, and no reading.
 ghost use Rattle.std.specs.Prelude.{◌≡◌};
 ghost use Rattle.values.specs.Floors.{floor_of_v, floor_of_i, floors_reached, both_reached, kept_if, floored, by_coupling, used_parts};
 
@@ -8,21 +8,21 @@ use tables::constants::FLOOR_I;
 use tables::decided::FLOOR_V;
 use tables::lookups::{i_lim, v_lim};
 
-// Whether the AC volts, and the AC amperes, reach their floors.
+/// Whether the AC volts, and the AC amperes, reach their floors.
 #[derive(Clone, Copy)]
 pub struct Reached {
     pub v_ok: bool,
     pub i_ok: bool,
 }
 
-// The floor of the AC volts in a V range.
+/// The floor of the AC volts in a V range.
 pub(crate) fn floor_of_v(vr: u8) -> f32
     ensures { result ≡ floor_of_v vr }
 {
     FLOOR_V * v_lim(vr)
 }
 
-// The floor of the AC amperes in a current range.
+/// The floor of the AC amperes in a current range.
 pub(crate) fn floor_of_i(ik: u8) -> f32
     ensures { result ≡ floor_of_i ik }
 {
@@ -46,7 +46,7 @@ pub(crate) fn both_reached(reached: Reached) -> bool
     if reached.v_ok { reached.i_ok } else { false }
 }
 
-// x where `ok`, else 0.0.
+/// x where `ok`, else 0.0.
 pub(crate) fn kept_if(ok: bool, x: f32) -> f32
     ensures { result ≡ kept_if ok x }
 {
@@ -81,8 +81,8 @@ fn by_coupling(ac: bool, parts: Parts) -> Parts
     parts
 }
 
-// The parts that count: in the simultaneous method AC parts that reach their floors, in AC coupling
-// none of the DC parts.
+/// The parts that count: in the simultaneous method AC parts that reach their floors, in AC coupling
+/// none of the DC parts.
 pub(crate) fn used_parts(mode: Mode, reached: Reached, parts: Parts) -> Parts
     ensures { result ≡ used_parts mode reached parts }
 {

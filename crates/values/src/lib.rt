@@ -1,5 +1,5 @@
-// Module 6 of document 01, values: what a meter shows, worked out from its state. `pw_vals` and
-// `pw_state` of the source, and `integrating`.
+//! Module 6 of document 01, values: what a meter shows, worked out from its state. `pw_vals` and
+//! `pw_state` of the source, and `integrating`.
 #![tactic(auto)]
 
 pub mod energy;

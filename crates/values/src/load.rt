@@ -1,4 +1,4 @@
-// What the load draws, and its DC and AC parts.
+//! What the load draws, and its DC and AC parts.
 ghost use Rattle.std.specs.Prelude.{◌≡◌};
 ghost use Rattle.values.specs.Load.{alt_figures, totals_of, noise_of_q, no_phase, no_reactive, phase_shown, load_figures, split, path_ohms};
 
@@ -11,7 +11,7 @@ use tables::constants::{NOISE_I, NOISE_V};
 use tables::lookups::{i_lim, v_lim};
 use tables::ranges::iu_ir;
 
-// The ohms of the meter's own path in a current range, by its unit.
+/// The ohms of the meter's own path in a current range, by its unit.
 pub(crate) fn path_ohms(settings: Settings, ik: u8) -> f32
     ensures { result ≡ path_ohms settings ik }
 {
@@ -92,8 +92,8 @@ fn phase_shown(ac: bool, both: bool, ranges: Ranges, figures: Figures) -> Figure
     }
 }
 
-// The figures by each method, with r ohms between meter and load (of no account in the alternating
-// one).
+/// The figures by each method, with r ohms between meter and load (of no account in the alternating
+/// one).
 pub(crate) fn load_figures(
     mode: Mode,
     reached: Reached,
@@ -115,7 +115,7 @@ pub(crate) fn load_figures(
     figures
 }
 
-// The DC and AC parts behind r ohms, in the simultaneous method and AC+DC coupling; else zeros.
+/// The DC and AC parts behind r ohms, in the simultaneous method and AC+DC coupling; else zeros.
 pub(crate) fn split(mode: Mode, used: Parts, r: f32) -> Split
     ensures { result ≡ split mode used r }
 {

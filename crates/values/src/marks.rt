@@ -1,5 +1,5 @@
-// The marks of a reading: what is over its range or its limit, whether there is a frequency, and the
-// hint that another coupling would do better.
+//! The marks of a reading: what is over its range or its limit, whether there is a frequency, and the
+//! hint that another coupling would do better.
 ghost use Rattle.std.specs.Prelude.{◌≡◌};
 ghost use Rattle.values.specs.Marks.{over_elapsed, seconds_left, over_limit, limits_of, dc_signal, dc_is_better, ac_is_missed, hint, frequency};
 
@@ -10,7 +10,7 @@ use state::{Comparator, Mode, Parts, Quantity, Ranges, Stamp, elapsed, has_seen}
 use tables::constants::{HINT_AC, HINT_NO_AC, R20_PB4};
 use tables::lookups::{i_lim, v_lim};
 
-// The countdown at the continuous current's limit: 0 none, 1 with so many seconds left, 2 expired.
+/// The countdown at the continuous current's limit: 0 none, 1 with so many seconds left, 2 expired.
 #[derive(Clone, Copy)]
 pub struct Countdown {
     pub over: u8,
@@ -40,7 +40,7 @@ fn seconds_left(t_lim: u16, el: u64) -> Countdown
     }
 }
 
-// The countdown of t_lim seconds since the stamp t0: none where no stamp is set, or t_lim is 0.
+/// The countdown of t_lim seconds since the stamp t0: none where no stamp is set, or t_lim is 0.
 pub(crate) fn over_limit(t0: Stamp, t_lim: u16, t_poll: u64) -> Countdown
     ensures { result ≡ over_limit t0 t_lim t_poll }
 {
@@ -55,7 +55,7 @@ pub(crate) fn over_limit(t0: Stamp, t_lim: u16, t_poll: u64) -> Countdown
     }
 }
 
-// Whether voltage and current are above `over` times their range's limit, beside the countdown.
+/// Whether voltage and current are above `over` times their range's limit, beside the countdown.
 pub(crate) fn limits_of(over: f32, ranges: Ranges, parts: Parts, count: Countdown) -> Limits
     ensures { result ≡ limits_of over ranges parts count }
 {
@@ -124,8 +124,8 @@ pub(crate) fn hint(mode: Mode, seen: u8, ranges: Ranges, parts: Parts, reached: 
     0
 }
 
-// Whether a frequency is to be had: not in DC coupling; in the simultaneous method where the
-// comparator has one and the channel that it watches reaches its floor; in the alternating one yes.
+/// Whether a frequency is to be had: not in DC coupling; in the simultaneous method where the
+/// comparator has one and the channel that it watches reaches its floor; in the alternating one yes.
 pub(crate) fn frequency(mode: Mode, comparator: Comparator, reached: Reached) -> bool
     ensures { result ≡ frequency mode comparator reached }
 {

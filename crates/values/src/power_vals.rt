@@ -1,4 +1,4 @@
-// The values of a reading: the source's `PowerVals`, in one struct for each group of them.
+//! The values of a reading: the source's `PowerVals`, in one struct for each group of them.
 ghost use Rattle.std.specs.Prelude.{◌≡◌};
 ghost use Rattle.values.specs.PowerVals.{zero_vals};
 
@@ -6,7 +6,7 @@ use figures::load::Figures;
 use state::Ranges;
 use tables::constants::{COUP_DC, MAIN_P};
 
-// Watt hours, volt ampere hours, the seconds counted, and the mean power in W: a NaN for none.
+/// Watt hours, volt ampere hours, the seconds counted, and the mean power in W: a NaN for none.
 #[derive(Clone, Copy)]
 #[repr(C)]
 pub struct Energies {
@@ -16,9 +16,9 @@ pub struct Energies {
     pub p_avg: f32,
 }
 
-// What the meter works by: the alternating method and DC coupling in force, the coupling asked for,
-// whether the path's drop is taken off, whether energy is counted, the phase steps in force, and the main
-// readout asked for.
+/// What the meter works by: the alternating method and DC coupling in force, the coupling asked for,
+/// whether the path's drop is taken off, whether energy is counted, the phase steps in force, and the main
+/// readout asked for.
 #[derive(Clone, Copy)]
 #[repr(C)]
 pub struct InForce {
@@ -31,8 +31,8 @@ pub struct InForce {
     pub main: u8,
 }
 
-// Voltage and current over their ranges; the countdown at the continuous current's limit: 0 none (also
-// without a limit), 1 with `over_left` seconds to go, 2 expired.
+/// Voltage and current over their ranges; the countdown at the continuous current's limit: 0 none (also
+/// without a limit), 1 with `over_left` seconds to go, 2 expired.
 #[derive(Clone, Copy)]
 #[repr(C)]
 pub struct Limits {
@@ -42,9 +42,9 @@ pub struct Limits {
     pub over_left: u16,
 }
 
-// The source's `vp`, `ip` and `pp`: DC and AC parts of volts, amperes and watts, at the load where `comp`,
-// else in front of the path, with AC parts below their floors counted as 0. They are shown in AC+DC
-// coupling of the simultaneous method; else all are 0.
+/// The source's `vp`, `ip` and `pp`: DC and AC parts of volts, amperes and watts, at the load where `comp`,
+/// else in front of the path, with AC parts below their floors counted as 0. They are shown in AC+DC
+/// coupling of the simultaneous method; else all are 0.
 #[derive(Clone, Copy)]
 #[repr(C)]
 pub struct Split {
@@ -56,11 +56,11 @@ pub struct Split {
     pub p_ac: f32,
 }
 
-// `load` has p, s, q, pf, v and i: at the load where `comp`, else in front of the path, as always in the
-// alternating method. In that method p, q and pf are NaN; in AC coupling of the simultaneous method s, q
-// and pf are, where an AC part does not reach its floor. `vdc` and `idc` are the DC parts as measured, in
-// front of the path: NaN in AC coupling, `vdc` in the alternating method too. `f_ok` is whether a frequency
-// is to be had, `burden_v` the drop in the meter's own path, `hint` 0, HINT_NO_AC or HINT_AC.
+/// `load` has p, s, q, pf, v and i: at the load where `comp`, else in front of the path, as always in the
+/// alternating method. In that method p, q and pf are NaN; in AC coupling of the simultaneous method s, q
+/// and pf are, where an AC part does not reach its floor. `vdc` and `idc` are the DC parts as measured, in
+/// front of the path: NaN in AC coupling, `vdc` in the alternating method too. `f_ok` is whether a frequency
+/// is to be had, `burden_v` the drop in the meter's own path, `hint` 0, HINT_NO_AC or HINT_AC.
 #[derive(Clone, Copy)]
 #[repr(C)]
 pub struct PowerVals {
@@ -135,7 +135,7 @@ impl PowerVals {
         split: Split::ZERO,
     };
 
-    // The source's `PowerVals::ZERO`, with `f_ok` no.
+    /// The source's `PowerVals::ZERO`, with `f_ok` no.
     pub fn zero() -> PowerVals
         ensures { result ≡ zero_vals }
     {

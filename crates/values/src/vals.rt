@@ -1,4 +1,4 @@
-// `pw_vals`, `pw_state` and `integrating` of the source: what a whole meter shows.
+//! `pw_vals`, `pw_state` and `integrating` of the source: what a whole meter shows.
 ghost use Rattle.std.specs.Prelude.{◌≡◌};
 ghost use Rattle.values.specs.Vals.{dc_volts, dc_amperes, values, pw_vals, state_only, pw_state, integrating};
 ghost use Rattle.values.specs.Divided.{in_force_of, load_of, values_of, basis_in, changing_in};
@@ -16,15 +16,15 @@ use state::{
 };
 use tables::constants::I_FLOOR;
 
-// The source's `Option<PowerVals>`: none while off, and before all that the method needs is measured.
+/// The source's `Option<PowerVals>`: none while off, and before all that the method needs is measured.
 #[derive(Clone, Copy)]
 pub enum Vals {
     NoValues,
     Measured(PowerVals),
 }
 
-// What the values are worked out from and a frame's accounting leaves: `over` is the description's, `seen` the
-// cycle's; of the mode `cal_req` is not looked at.
+/// What the values are worked out from and a frame's accounting leaves: `over` is the description's, `seen` the
+/// cycle's; of the mode `cal_req` is not looked at.
 #[derive(Clone, Copy)]
 pub struct Basis {
     pub mode: Mode,
@@ -36,8 +36,8 @@ pub struct Basis {
     pub over: f32,
 }
 
-// Of what a frame's accounting changes, that which the values show: what is counted, the clock, since when the
-// current is above its limit, and the phase steps.
+/// Of what a frame's accounting changes, that which the values show: what is counted, the clock, since when the
+/// current is above its limit, and the phase steps.
 #[derive(Clone, Copy)]
 pub struct Changing {
     pub tally: Tally,
@@ -84,7 +84,7 @@ fn dc_amperes(mode: Mode, i_dc: f32) -> f32
     i_dc
 }
 
-// The figures of the load: power, apparent and reactive power, power factor, volts and amperes.
+/// The figures of the load: power, apparent and reactive power, power factor, volts and amperes.
 pub fn load_of(basis: Basis) -> Figures
     ensures { result ≡ load_of basis }
 {
@@ -98,7 +98,7 @@ pub fn load_of(basis: Basis) -> Figures
     load_figures(mode, a, ranges, used, r)
 }
 
-// All values, with these figures of the load.
+/// All values, with these figures of the load.
 pub fn values_of(basis: Basis, load: Figures, changing: Changing) -> PowerVals
     ensures { result ≡ values_of basis load changing }
 {
@@ -177,7 +177,7 @@ fn values(pw: Pw) -> PowerVals
     values_of(basis, load, changing_in(pw))
 }
 
-// The values, once voltage and current and what else the method needs are measured, while on.
+/// The values, once voltage and current and what else the method needs are measured, while on.
 pub fn pw_vals(pw: Pw) -> Vals
     ensures { result ≡ pw_vals pw }
 {
@@ -203,7 +203,7 @@ fn state_only(pw: Pw) -> PowerVals
     vals
 }
 
-// The values; where there are none, what is known without them.
+/// The values; where there are none, what is known without them.
 pub fn pw_state(pw: Pw) -> PowerVals
     ensures { result ≡ pw_state pw }
 {
@@ -214,7 +214,7 @@ pub fn pw_state(pw: Pw) -> PowerVals
     }
 }
 
-// Whether energy is being counted with a current above I_FLOOR.
+/// Whether energy is being counted with a current above I_FLOOR.
 pub fn integrating(pw: Pw) -> bool
     ensures { result ≡ integrating pw }
 {

@@ -1,5 +1,5 @@
-// Runs rows of document 01 and other figures from outside through the functions, and compares. It
-// writes the number of each row that differs, and at the end how many agreed and how many differed.
+//! Runs rows of document 01 and other figures from outside through the functions, and compares. It
+//! writes the number of each row that differs, and at the end how many agreed and how many differed.
 #![tactic(auto)]
 
 use codes::{Codes, Decoded};
