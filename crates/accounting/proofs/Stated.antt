@@ -1,20 +1,22 @@
 -- What follows from the definition: what an accounting leaves as it was, and what it does to the counted time and to the last time.
-use mathlib.Core.Path.{◌≡◌, refl, sym}
-use mathlib.Core.Bool.{Bool, true, false, not, ◌&&◌, true≢false}
+use mathlib.Core.Path.{◌≡◌, refl}
+use mathlib.Core.Bool.{Bool, true, false, not, ◌&&◌}
 use Prim.Native.Nat.{ℕ, ◌+◌, ◌^◌, ◌≤◌}
 use native.Mathlib.Omega.{arith}
 use lib.Dec.{ltb}
 use lib.IntN.{pos}
 use lib.Ieee.{Float}
+use Rattle.std.specs.Prelude.{Result, Ok, Err, IfOk, IsOkAnd}
 use Rattle.numbers.specs.Binary32.{◌*f◌}
 use Rattle.numbers.proofs.Cases.{either}
-use Rattle.figures.specs.declared.acc.Added.{Added}
-use Rattle.figures.specs.declared.acc.Added.TheVariants as added
+use Rattle.refusals.specs.declared.Refusal.{Refusal}
+use Rattle.figures.specs.declared.acc.Sum.{Sum}
 use Rattle.figures.specs.declared.load.Figures.{Figures}
 use Rattle.figures.specs.declared.tally.Tally.{Tally}
-use Rattle.figures.specs.declared.tally.Accounted.{Accounted}
-use Rattle.figures.specs.declared.tally.Accounted.TheVariants.{Counted, Full}
+use Rattle.figures.specs.declared.tally.Counted.{Counted}
 use Rattle.figures.specs.Acc.{add_to}
+use Rattle.figures.proofs.Exactly.{OnlyFull}
+use Rattle.figures.proofs.Stated.{only_full}
 use Rattle.figures.specs.Tally.{seconds, energy_step, with_time, both, accounting_step}
 use Rattle.state.specs.declared.Pw.{Pw}
 use Rattle.state.specs.Fresh.{no_time}
@@ -35,57 +37,62 @@ no_both true = refl
 no_both false = refl
 
 module _ (m : Pw) (load : Figures) (now : ℕ) where
-  pub untouched : Untouched (account m load now).pw m
+  pub untouched : IfOk (account m load now) (λ n. Untouched n m)
   unfolding account
   untouched = go (counted m now)
     where
-      go : (a : Accounted) → Untouched (account_by m load now a).pw m
-      go (Counted t w) = (refl, refl, refl, refl, refl, refl, refl, refl, refl, refl, refl, refl, refl, refl, refl, refl, refl)
-      go Full = (refl, refl, refl, refl, refl, refl, refl, refl, refl, refl, refl, refl, refl, refl, refl, refl, refl)
+      go : (a : Result Counted Refusal) → IfOk (account_by m load now a) (λ n. Untouched n m)
+      go (Ok c) = (refl, refl, refl, refl, refl, refl, refl, refl, refl, refl, refl, refl, refl, refl, refl, refl, refl)
+      go (Err r) = tt
 
-  -- full: "whole frame undone", so the meter is as it was
-  pub full_undone : (account m load now).full ≡ true → (account m load now).pw ≡ m
+  -- a refusal of the accounting is full
+  pub counted_full : OnlyFull (counted m now)
+  unfolding counted
+  counted_full =
+      either OnlyFull (m.clock.run && m.clock.t_last.set) (only_full m.tally (elapsed now m.clock.t_last.at) m.powers.p_tot m.powers.s_last (not (alternating m.mode))) tt
+
+  pub refused_full : OnlyFull (account m load now)
   unfolding account
-  full_undone = go (counted m now)
+  refused_full = go (counted m now) counted_full
     where
-      go : (a : Accounted) → (account_by m load now a).full ≡ true → (account_by m load now a).pw ≡ m
-      go (Counted t w) e = absurd (true≢false (sym e))
-      go Full e = refl
+      go : (a : Result Counted Refusal) → OnlyFull a → OnlyFull (account_by m load now a)
+      go (Ok c) f = tt
+      go (Err r) f = f
 
   -- document 01: "its time becomes the last (none while stopped)", where the accounting is not refused
-  pub last_time_law : (account m load now).full ≡ false → (account m load now).pw.clock.t_last ≡ last_time m.clock.run now
+  pub last_time_law : IfOk (account m load now) (λ n. n.clock.t_last ≡ last_time m.clock.run now)
   unfolding account
   last_time_law = go (counted m now)
     where
-      go : (a : Accounted) → (account_by m load now a).full ≡ false → (account_by m load now a).pw.clock.t_last ≡ last_time m.clock.run now
-      go (Counted t w) e = refl
-      go Full e = absurd (true≢false e)
+      go : (a : Result Counted Refusal) → IfOk (account_by m load now a) (λ n. n.clock.t_last ≡ last_time m.clock.run now)
+      go (Ok c) = refl
+      go (Err r) = tt
 
-  not_counted : m.clock.run && m.clock.t_last.set ≡ false → counted m now ≡ Counted m.tally (pos 0)
+  not_counted : m.clock.run && m.clock.t_last.set ≡ false → counted m now ≡ Ok (record { tally = m.tally; gained = pos 0 })
   unfolding counted
   not_counted e = rw (e)
 
   -- while stopped nothing is counted, and there is no last time
-  pub stopped : m.clock.run ≡ false → let a = account m load now in (a.full ≡ false) × (a.pw.tally ≡ m.tally) × (a.pw.clock.t_last ≡ no_time)
+  pub stopped : m.clock.run ≡ false → IsOkAnd (account m load now) (λ n. (n.tally ≡ m.tally) × (n.clock.t_last ≡ no_time))
   unfolding account counted last_time
-  stopped e = (rw (e), rw (e), rw (e))
+  stopped e = rw (e) (refl, refl)
 
   -- nor is anything counted where there is no last time
-  pub first_frame : m.clock.t_last.set ≡ false → let a = account m load now in (a.full ≡ false) × (a.pw.tally ≡ m.tally)
+  pub first_frame : m.clock.t_last.set ≡ false → IsOkAnd (account m load now) (λ n. n.tally ≡ m.tally)
   unfolding account
-  first_frame e = let none = not_counted (rw (e) (no_both m.clock.run)) in (rw (none), rw (none))
+  first_frame e = let none = not_counted (rw (e) (no_both m.clock.run)) in rw (none)
 
 -- ---- the counted time
 
-abbrev TimeIs : ℕ → Accounted → Type 0
-TimeIs n (Counted u w) = u.t_int ≡ n
-TimeIs n Full = Unit
+abbrev TimeIs : ℕ → Result Counted Refusal → Type 0
+TimeIs n (Ok c) = c.tally.t_int ≡ n
+TimeIs n (Err r) = Unit
 
-both_time : (e va : Added) (t dt : ℕ) → TimeIs (t + dt) (both e va t dt)
+both_time : (e va : Result Sum Refusal) (t dt : ℕ) → TimeIs (t + dt) (both e va t dt)
 unfolding both with_time
-both_time (added.Sum e x) (added.Sum va y) t dt = either (TimeIs (t + dt)) (ltb (t + dt) (2 ^ 63)) refl tt
-both_time (added.Sum e x) added.Full t dt = tt
-both_time added.Full va t dt = tt
+both_time (Ok e) (Ok va) t dt = either (TimeIs (t + dt)) (ltb (t + dt) (2 ^ 63)) refl tt
+both_time (Ok e) (Err r) t dt = tt
+both_time (Err r) va t dt = tt
 
 step_time : (t : Tally) (dt : ℕ) (p s : Float) (active : Bool) → TimeIs (t.t_int + dt) (accounting_step t dt p s active)
 unfolding accounting_step
@@ -100,14 +107,18 @@ module _ (m : Pw) (load : Figures) (now : ℕ) (run : m.clock.run ≡ true) (aft
   counted_time = rw (run, after) (step_time m.tally (elapsed now m.clock.t_last.at) m.powers.p_tot m.powers.s_last (not (alternating m.mode)))
 
   -- the counted time gains what has elapsed since the last time, where the accounting is not refused
-  pub gains_elapsed : let a = account m load now in a.full ≡ false → a.pw.tally.t_int ≡ gained
+  pub gains_elapsed : IfOk (account m load now) (λ n. n.tally.t_int ≡ gained)
   unfolding account
   gains_elapsed = go (counted m now) counted_time
     where
-      go : (a : Accounted) → TimeIs gained a → (account_by m load now a).full ≡ false → (account_by m load now a).pw.tally.t_int ≡ gained
-      go (Counted u w) h e = h
-      go Full h e = absurd (true≢false e)
+      go : (a : Result Counted Refusal) → TimeIs gained a → IfOk (account_by m load now a) (λ n. n.tally.t_int ≡ gained)
+      go (Ok c) h = h
+      go (Err r) h = tt
 
   -- document 01: "A smaller clock reading than the last is no refusal; an accounted frame then counts zero elapsed"
-  pub smaller_clock : let a = account m load now in now ≤ m.clock.t_last.at → a.full ≡ false → a.pw.tally.t_int ≡ m.tally.t_int
-  smaller_clock h e = omega (arith, gains_elapsed e)
+  pub smaller_clock : now ≤ m.clock.t_last.at → IfOk (account m load now) (λ n. n.tally.t_int ≡ m.tally.t_int)
+  smaller_clock h = go (account m load now) gains_elapsed
+    where
+      go : (a : Result Pw Refusal) → IfOk a (λ n. n.tally.t_int ≡ gained) → IfOk a (λ n. n.tally.t_int ≡ m.tally.t_int)
+      go (Ok n) g = omega (arith, g)
+      go (Err r) g = tt

@@ -1,31 +1,31 @@
 -- `pw_account` of the source. Document 01: "an accounted frame then counts zero elapsed and its time becomes the last (none while stopped)", of a job, "The next accounted frame after it counts the whole gap at the last power"; refusal 6, full, is the accounting step's.
-use Rattle.std.specs.Prelude.{Bool, true, false, not, ◌&&◌, cond, ℕ, Float, pos}
+use Rattle.std.specs.Prelude.{Bool, not, ◌&&◌, cond, ℕ, Float, pos, Result, Ok, Err}
 use Rattle.std.specs.Float.{binary32}
 use Rattle.std.specs.Float.Ieee.{lt, of_bits}
 use Rattle.numbers.specs.Binary32.{zero_f, is_finite, ◌*f◌}
+use Rattle.refusals.specs.declared.Refusal.{Refusal}
 use Rattle.figures.specs.declared.load.Figures.{Figures}
 use Rattle.figures.specs.declared.tally.Tally.{Tally}
-use Rattle.figures.specs.declared.tally.Accounted.{Accounted}
-use Rattle.figures.specs.declared.tally.Accounted.TheVariants.{Counted, Full}
+use Rattle.figures.specs.declared.tally.Counted.{Counted}
 use Rattle.figures.specs.Tally.{accounting_step}
 use Rattle.state.specs.declared.Powers.{Powers}
 use Rattle.state.specs.declared.Pw.{Pw}
 use Rattle.state.specs.declared.Stamp.{Stamp}
-use Rattle.state.specs.Fresh.{no_time}
+use Rattle.state.specs.Fresh.{no_time, at_time}
 use Rattle.state.specs.Counting.{elapsed}
 use Rattle.phase.specs.Phase.{cal_accounted}
 use Rattle.values.specs.Methods.{alternating}
 
 -- `if run { if let Some(t) = t_last { .. } }`: the interval from the last accounted frame, at `p_tot` and `s_last`; the active energy counts where `!alt || dc`
-unfoldable pub counted : Pw → ℕ → Accounted
+unfoldable pub counted : Pw → ℕ → Result Counted Refusal
 counted m now =
     cond (m.clock.run && m.clock.t_last.set)
     (accounting_step m.tally (elapsed now m.clock.t_last.at) m.powers.p_tot m.powers.s_last (not (alternating m.mode)))
-    (Counted m.tally (pos 0))
+    (Ok (record { tally = m.tally; gained = pos 0 }))
 
 -- `t_last = Some(now)`, and `None` while stopped
 unfoldable pub last_time : Bool → ℕ → Stamp
-last_time run now = cond run (record { set = true; at = now }) no_time
+last_time run now = cond run (at_time now) no_time
 
 -- `if x.is_finite() { x } else { 0.0 }`
 unfoldable pub finite_or_zero : Float → Float
@@ -40,7 +40,7 @@ ninety_five = of_bits binary32 0x3f73_3333  -- 0.95
 -- `if i > i_cont { if over_t0.is_none() { over_t0 = Some(now) } } else if i < 0.95 * i_cont { over_t0 = None }`
 unfoldable pub over_since : Stamp → Float → Float → ℕ → Stamp
 over_since since i iCont now =
-    cond (lt iCont i) (cond since.set since (record { set = true; at = now }))
+    cond (lt iCont i) (cond since.set since (at_time now))
     (cond (lt i (ninety_five *f iCont)) no_time since)
 
 -- what is left where the interval is counted. All else stays: description and words, mode but for `cal_req`, ranges, barred, cycle, parts, run and the last frame's time, settings, corrections, job, comparator and ring
@@ -67,15 +67,11 @@ accounted_to m t load now =
       ring = m.ring;
     }
 
--- the meter after it; or full, and the meter as it was
-pub record AccountAnswer : Type 0 where
-  pub full : Bool
-  pub pw : Pw
-
-abbrev pub account_by : Pw → Figures → ℕ → Accounted → AccountAnswer
-account_by m load now (Counted t w) = record { full = false; pw = accounted_to m t load now }
-account_by m load now Full = record { full = true; pw = m }
+-- the meter after it; or full, of which no meter comes
+abbrev pub account_by : Pw → Figures → ℕ → Result Counted Refusal → Result Pw Refusal
+account_by m load now (Ok c) = Ok (accounted_to m c.tally load now)
+account_by m load now (Err r) = Err r
 
 -- `load`: of the values before the accounting, the source's `pv`
-unfoldable pub account : Pw → Figures → ℕ → AccountAnswer
+unfoldable pub account : Pw → Figures → ℕ → Result Pw Refusal
 account m load now = account_by m load now (counted m now)

@@ -1,25 +1,22 @@
 -- The accounting as the code divides it: on a ledger, the record of what it changes. The contract of `posted` speaks of it; a reader of the frame call need not believe it: proofs/Posting.antt says that it is `account` of specs/Account.antt.
-use Rattle.std.specs.Prelude.{Bool, true, false, ◌&&◌, cond, ℕ, Float, pos}
+use Rattle.std.specs.Prelude.{Bool, ◌&&◌, cond, ℕ, Float, pos, Result, Ok, Err}
+use Rattle.refusals.specs.declared.Refusal.{Refusal}
 use Rattle.figures.specs.declared.load.Figures.{Figures}
 use Rattle.figures.specs.declared.tally.Tally.{Tally}
-use Rattle.figures.specs.declared.tally.Accounted.{Accounted}
-use Rattle.figures.specs.declared.tally.Accounted.TheVariants.{Counted, Full}
+use Rattle.figures.specs.declared.tally.Counted.{Counted}
 use Rattle.figures.specs.Tally.{accounting_step}
-use Rattle.state.specs.declared.Clock.{Clock}
-use Rattle.state.specs.declared.Powers.{Powers}
 use Rattle.state.specs.declared.Pw.{Pw}
 use Rattle.state.specs.Counting.{elapsed}
 use Rattle.phase.specs.Phase.{cal_accounted}
 use Rattle.accounting.specs.declared.Ledger.{Ledger}
-use Rattle.accounting.specs.declared.LedgerAnswer.{LedgerAnswer}
 use Rattle.accounting.specs.Account.{last_time, powers_of, over_since}
 
--- `counted` of its parts: `active` is whether the active energy counts
-unfoldable pub counted_of : Tally → Clock → Powers → Bool → ℕ → Accounted
-counted_of t c p active now =
-    cond (c.run && c.t_last.set)
-    (accounting_step t (elapsed now c.t_last.at) p.p_tot p.s_last active)
-    (Counted t (pos 0))
+-- `counted` of the ledger: `active` is whether the active energy counts
+unfoldable pub counted_of : Ledger → Bool → ℕ → Result Counted Refusal
+counted_of b active now =
+    cond (b.clock.run && b.clock.t_last.set)
+    (accounting_step b.tally (elapsed now b.clock.t_last.at) b.powers.p_tot b.powers.s_last active)
+    (Ok (record { tally = b.tally; gained = pos 0 }))
 
 -- what the accounting changes of a meter, and a meter with that changed
 abbrev pub ledger_in : Pw → Ledger
@@ -68,9 +65,9 @@ posted_to b t iCont load now =
       cal_req = c.cal_req;
     }
 
-abbrev pub posted_by : Ledger → Float → Figures → ℕ → Accounted → LedgerAnswer
-posted_by b iCont load now (Counted t w) = record { full = false; ledger = posted_to b t iCont load now }
-posted_by b iCont load now Full = record { full = true; ledger = b }
+abbrev pub posted_by : Ledger → Float → Figures → ℕ → Result Counted Refusal → Result Ledger Refusal
+posted_by b iCont load now (Ok c) = Ok (posted_to b c.tally iCont load now)
+posted_by b iCont load now (Err r) = Err r
 
-unfoldable pub posted : Ledger → Bool → Float → Figures → ℕ → LedgerAnswer
-posted b active iCont load now = posted_by b iCont load now (counted_of b.tally b.clock b.powers active now)
+unfoldable pub posted : Ledger → Bool → Float → Figures → ℕ → Result Ledger Refusal
+posted b active iCont load now = posted_by b iCont load now (counted_of b active now)

@@ -7,8 +7,9 @@ ghost use Rattle.accounting.specs.Account.{last_time, finite_or_zero, powers_of,
 ghost use Rattle.accounting.specs.Divided.{counted_of, posted};
 
 use figures::load::Figures;
-use figures::tally::{Accounted, Tally, accounting_step};
+use figures::tally::{Counted, Tally, accounting_step};
 use phase::cal_account;
+use refusals::Refusal;
 use state::{Clock, PhaseCal, Powers, Stamp, elapsed};
 
 /// What the accounting changes.
@@ -22,42 +23,38 @@ pub struct Ledger {
     pub cal_req: bool,
 }
 
-/// The ledger after the accounting; or full, which refuses the frame with 6, and the ledger as it was.
-#[derive(Clone, Copy)]
-pub struct LedgerAnswer {
-    pub full: bool,
-    pub ledger: Ledger,
-}
-
 // The tally after the interval from the last accounted frame. While stopped, and where there was no such
 // frame, nothing is counted.
-fn counted(tally: Tally, clock: Clock, powers: Powers, active: bool, time: u64) -> Accounted
-    ensures { result ≡ counted_of tally clock powers active time }
+#[tactic(auto, unfolding(crate::specs::Divided::counted_of))]
+fn counted(before: Ledger, active: bool, time: u64) -> Result<Counted, Refusal>
+    ensures { result ≡ counted_of before active time }
 {
-    let t_last = clock.t_last;
-    if clock.run {
-        if t_last.set {
-            let dt = elapsed(time, t_last.at);
-            return accounting_step(tally, dt, powers.p_tot, powers.s_last, active);
-        }
+    let t_last = before.clock.t_last;
+    let powers = before.powers;
+    if before.clock.run && t_last.set {
+        let dt = elapsed(time, t_last.at);
+        return accounting_step(before.tally, dt, powers.p_tot, powers.s_last, active);
     }
-    Accounted::Counted(tally, 0)
+    Ok(Counted {
+        tally: before.tally,
+        gained: 0,
+    })
 }
 
 // The last accounted frame's time: this one's, and none while stopped.
+#[tactic(auto, unfolding(crate::specs::Account::last_time))]
 fn last_time(run: bool, time: u64) -> Stamp
     ensures { result ≡ last_time run time }
 {
     if run {
-        return Stamp {
-            set: true,
-            at: time,
-        };
+        Stamp::at_time(time)
+    } else {
+        Stamp::NONE
     }
-    Stamp { set: false, at: 0 }
 }
 
 // x, or 0.0 for a NaN or an infinity.
+#[tactic(auto, unfolding(crate::specs::Account::finite_or_zero))]
 fn finite_or_zero(x: f32) -> f32
     ensures { result ≡ finite_or_zero x }
 {
@@ -65,61 +62,56 @@ fn finite_or_zero(x: f32) -> f32
 }
 
 // The powers of the next interval: this reading's.
+#[tactic(auto, unfolding(crate::specs::Account::powers_of))]
 fn powers_of(load: Figures) -> Powers
     ensures { result ≡ powers_of load }
 {
-    let p_tot = finite_or_zero(load.p);
-    let s_last = finite_or_zero(load.s);
-    Powers { p_tot, s_last }
+    Powers {
+        p_tot: finite_or_zero(load.p),
+        s_last: finite_or_zero(load.s),
+    }
 }
 
 // Since when the current is above `i_cont`: from the first reading above it until one below 0.95 of it.
+#[tactic(auto, unfolding(crate::specs::Account::over_since))]
 fn over_since(before: Stamp, i: f32, i_cont: f32, time: u64) -> Stamp
     ensures { result ≡ over_since before i i_cont time }
 {
     if i > i_cont {
         if before.set {
-            return before;
+            before
+        } else {
+            Stamp::at_time(time)
         }
-        return Stamp {
-            set: true,
-            at: time,
-        };
+    } else if i < 0.95 * i_cont {
+        Stamp::NONE
+    } else {
+        before
     }
-    if i < 0.95 * i_cont {
-        return Stamp { set: false, at: 0 };
-    }
-    before
 }
 
-/// The ledger after a reading with these figures. `active` is whether the active energy counts.
-pub fn posted(before: Ledger, active: bool, i_cont: f32, load: Figures, time: u64) -> LedgerAnswer
+/// The ledger after a reading with these figures; or full, which refuses the frame. `active` is whether
+/// the active energy counts.
+#[tactic(auto, unfolding(crate::specs::Divided::posted))]
+pub fn posted(
+    before: Ledger,
+    active: bool,
+    i_cont: f32,
+    load: Figures,
+    time: u64,
+) -> Result<Ledger, Refusal>
     ensures { result ≡ posted before active i_cont load time }
 {
+    let interval = counted(before, active, time)?;
     let mut clock = before.clock;
-    let t_last = last_time(clock.run, time);
-    clock.t_last = t_last;
-    let powers = powers_of(load);
-    let over_t0 = over_since(before.over_t0, load.i, i_cont, time);
+    clock.t_last = last_time(clock.run, time);
     let step = cal_account(before.phase_cal, before.cal_req);
-    let phase_cal = step.phase_cal;
-    let cal_req = step.cal_req;
-    let interval = counted(before.tally, before.clock, before.powers, active, time);
-    match interval {
-        Accounted::Counted(tally, _) => LedgerAnswer {
-            full: false,
-            ledger: Ledger {
-                tally,
-                clock,
-                powers,
-                over_t0,
-                phase_cal,
-                cal_req,
-            },
-        },
-        Accounted::Full => LedgerAnswer {
-            full: true,
-            ledger: before,
-        },
-    }
+    Ok(Ledger {
+        tally: interval.tally,
+        clock,
+        powers: powers_of(load),
+        over_t0: over_since(before.over_t0, load.i, i_cont, time),
+        phase_cal: step.phase_cal,
+        cal_req: step.cal_req,
+    })
 }

@@ -8,12 +8,12 @@ use borrow.Author.Tests.{ltb-false}
 use lib.Dec.{ltb, eqb}
 use lib.Ieee.{Float}
 use lib.ListN.{length}
+use Rattle.std.specs.Prelude.{Result, Ok, Err}
 use Rattle.codes.specs.declared.Codes.{Codes}
 use Rattle.tables.specs.Constants.{jr_signal}
 use Rattle.state.specs.declared.Ranges.{Ranges}
 use Rattle.steps.specs.declared.place.Kind.TheVariants.{Zero, Gain}
-use Rattle.steps.specs.declared.verdict.RawVerdict.{RawVerdict}
-use Rattle.steps.specs.declared.verdict.RawVerdict.TheVariants.{Small, Big, Fair}
+use Rattle.steps.specs.declared.error.JobError.{JobError}
 use Rattle.steps.specs.Place.{zero_steps, layout_of}
 use Rattle.steps.specs.Reading.{Zeros}
 use Rattle.jobs.specs.declared.bench.Bench.{Bench}
@@ -36,20 +36,19 @@ module _ (c : Setting) (t : Bench) (r : Ranges) (fs : List Codes) (f : Codes) wh
     where
       go : (d q n u : Bool) → ltb (suc (length fs)) (begins zero_steps (suc s)) ≡ n → ltb s 12 ≡ u
           → cond d going (cond q (struck jr_signal) (cond n going (cond u going (zeroed (thirteen c (fs ++ (f ∷ []))))))) ≡ zeroed z → suc (length fs) ≡ 52
-      go true q n u en eu i = absurd (let x : ◌≡◌ {A = ℕ} 0 1 = cc in omega arith)
-      go false true n u en eu i = absurd (let x : ◌≡◌ {A = ℕ} 0 1 = cc in omega arith)
-      go false false true u en eu i = absurd (let x : ◌≡◌ {A = ℕ} 0 1 = cc in omega arith)
-      go false false false true en eu i = absurd (let x : ◌≡◌ {A = ℕ} 0 1 = cc in omega arith)
+      go true q n u en eu i = cc
+      go false true n u en eu i = cc
+      go false false true u en eu i = cc
+      go false false false true en eu i = cc
       go false false false false en eu i =
           let e12 : s ≡ 12 = omega (arith, sv.low, ltb-false s 12 eu) in
           let x : begins zero_steps s ≡ 48 = ap (begins zero_steps) e12 in
           let y : drops (measures zero_steps s) ≡ 1 = ap (λ (n : ℕ). drops (measures zero_steps n)) e12 in
           omega (arith, before_next c t Zero r fs sv, ltb-false (suc (length fs)) (begins zero_steps (suc s)) en)
 
-  no_gain : (v : RawVerdict) (g : Float) → raw_out v ≡ gained g → ⊥
-  no_gain Small g e = let x : ◌≡◌ {A = ℕ} 0 1 = cc in omega arith
-  no_gain Big g e = let x : ◌≡◌ {A = ℕ} 0 1 = cc in omega arith
-  no_gain Fair g e = let x : ◌≡◌ {A = ℕ} 0 1 = cc in omega arith
+  no_gain : (v : Result (Unit {0}) JobError) (g : Float) → raw_out v ≡ gained g → ⊥
+  no_gain (Err x) g e = cc
+  no_gain (Ok x) g e = cc
 
   whole : (d : Bool) → begins (layout_of Gain d) 4 ≡ cond d 16 22
   whole true = refl
@@ -64,11 +63,11 @@ module _ (c : Setting) (t : Bench) (r : Ranges) (fs : List Codes) (f : Codes) wh
       go : (d q n v u : Bool) → ltb (suc (length fs)) (begins (lay_in Gain t) (suc s)) ≡ n → ltb s 3 ≡ u
           → let gs = fs ++ (f ∷ []) in
           cond d going (cond q (struck jr_signal) (cond n going (cond v (raw_out (verdict_of c (dc_of c gs) gs s)) (cond u going (gain_out (ratio_of c (dc_of c gs) gs)))))) ≡ gained g → suc (length fs) ≡ cond (dc_of c gs) 16 22
-      go true q n v u en eu i = absurd (let x : ◌≡◌ {A = ℕ} 0 1 = cc in omega arith)
-      go false true n v u en eu i = absurd (let x : ◌≡◌ {A = ℕ} 0 1 = cc in omega arith)
-      go false false true v u en eu i = absurd (let x : ◌≡◌ {A = ℕ} 0 1 = cc in omega arith)
+      go true q n v u en eu i = cc
+      go false true n v u en eu i = cc
+      go false false true v u en eu i = cc
       go false false false true u en eu i = absurd (no_gain (verdict_of c (dc_of c (fs ++ (f ∷ []))) (fs ++ (f ∷ [])) s) g i)
-      go false false false false true en eu i = absurd (let x : ◌≡◌ {A = ℕ} 0 1 = cc in omega arith)
+      go false false false false true en eu i = cc
       go false false false false false en eu i =
           let l = lay_in Gain t in
           let e3 : s ≡ 3 = omega (arith, sv.low, three_steps t.job.job_dc, ltb-false s 3 eu) in

@@ -8,6 +8,8 @@ use borrow.Author.Tests.{eqb-true, eqb-false, eq-eqb, ne_eqb}
 use lib.Dec.{eqb}
 use lib.Ieee.{nan}
 use lib.ListN.{length, get_or, replicate}
+use Rattle.std.proofs.Common.{Option, None, Some, Result, Ok, Err, is_err, IsOk}
+use Rattle.std.specs.Result.{result_err}
 use Rattle.numbers.specs.Binary32.{zero_f}
 use Rattle.numbers.proofs.Cases.{either, by_test}
 use Rattle.refusals.specs.declared.Refusal.{Refusal}
@@ -30,23 +32,22 @@ use Rattle.jobs.specs.With.{with_job}
 use Rattle.jobs.specs.Bench.{ended_if_any, ended, noted, begun, turned_away}
 use Rattle.jobs.specs.Frame.{job_frame}
 use Rattle.jobs.specs.Whole.{bench_in, with_bench, job_started, job_turned_away, job_ended, job_polled}
+use Rattle.orders.specs.declared.answer.Answer.{Answer}
 use Rattle.orders.specs.declared.answer.Step.{Step}
 use Rattle.orders.specs.Answer.{late, refused_with, marked, done}
 use Rattle.orders.specs.With.{with_cal_req, with_mode}
 use Rattle.orders.specs.Apply.{applied, aborted}
 use Rattle.orders.specs.Switches as switches
-use Rattle.orders.specs.Ranges.{set_ranges}
 use Rattle.orders.specs.Starts.{started_step, start_job, phase_start, energy_reset, set_run, set_settings}
-use Rattle.orders.proofs.Stated.{Carried, aborted_none, on_carried, off_carried, method_carried, coupling_carried, ranges_carried, reapply_carried}
-use Rattle.meter.specs.declared.making.Made.{Made}
-use Rattle.meter.specs.Making.{refuses, not_made, make}
-use Rattle.meter.specs.Calls.{step, after, Call, On, Off, Method, SetRanges, Coupling, ZeroJob, GainJob, PhaseStart, EnergyReset, Run, Reapply, SetSettings, Frame}
-use Rattle.meter.specs.Table.{refusal_of, left_by}
-use Rattle.meter.proofs.Stated.{outside_leaves, in_job_law, made_with, six_in_bounds, makes}
+use Rattle.orders.proofs.Stated.{aborted_none, reapply_carried}
+use Rattle.meter.specs.Making.{make}
+use Rattle.meter.specs.Calls.{about, step, after, Call, ZeroJob, GainJob, PhaseStart, EnergyReset, Run, Reapply, SetSettings, Frame}
+use Rattle.meter.specs.Table.{refusal_of, left_by, turned_away as meter_turned_away}
+use Rattle.meter.proofs.Stated.{outside_leaves, in_job_law, made_with, ends_job, corrections_stay, six_in_bounds, makes, job_frame as changes_job}
 use Rattle.meter.proofs.Table.{refused_as, leaves}
 use Rattle.book.specs.Book.{Running, idle, serving, Book, book, framed, started, strikes, asked, entry, books, blank, setting_of}
-use Rattle.book.specs.Demand3.{NoZeros, fed}
-use Rattle.book.proofs.Relation.{Lengths, Results, Runs, Rel}
+use Rattle.book.specs.Demand3.{fed}
+use Rattle.book.proofs.Relation.{Lengths, Results, Runs, Holds, Rel}
 use Rattle.book.proofs.Serve.{step_as_law, step_serves}
 use Rattle.book.proofs.Frames.{frame_keeps}
 
@@ -70,33 +71,20 @@ book_idle w m b h e = go b.job h.rel.runs
 
 -- ---- a refusal, or none
 
-pub none_refused : (n : Refusal) → refuses n ≡ false → n ≡ refusal.Done
-none_refused refusal.Done e = refl
-none_refused refusal.Off e = absurd (true≢false e)
-none_refused refusal.Busy e = absurd (true≢false e)
-none_refused refusal.Method e = absurd (true≢false e)
-none_refused refusal.Frame e = absurd (true≢false e)
-none_refused refusal.Late e = absurd (true≢false e)
-none_refused refusal.Full e = absurd (true≢false e)
-none_refused refusal.Description e = absurd (true≢false e)
-none_refused refusal.Words e = absurd (true≢false e)
+-- what holds of a call that is refused, and of one that is not, holds of each
+pub refused_or_done : {A E : Type 0} (P : Bool → Type 0) (a : Result A E) → (is_err a ≡ true → P true) → (IsOk a → P false) → P (is_err a)
+refused_or_done P (Ok x) away done = done refl
+refused_or_done P (Err n) away done = away refl
 
-left_alone : (m : Pw) (t flags : ℕ) (bytes : List ℕ) (n : Refusal) → refuses n ≡ true → left_by n m (Frame t flags bytes) ≡ m
-left_alone m t flags bytes refusal.Done e = absurd (true≢false (sym e))
-left_alone m t flags bytes refusal.Off e = refl
-left_alone m t flags bytes refusal.Busy e = refl
-left_alone m t flags bytes refusal.Method e = refl
-left_alone m t flags bytes refusal.Frame e = refl
-left_alone m t flags bytes refusal.Late e = refl
-left_alone m t flags bytes refusal.Full e = refl
-left_alone m t flags bytes refusal.Description e = refl
-left_alone m t flags bytes refusal.Words e = refl
-
--- a refused frame leaves all as before
-frame_refused : (m : Pw) (t flags : ℕ) (bytes : List ℕ) → refuses (step m (Frame t flags bytes)).answer.refusal ≡ true → (step m (Frame t flags bytes)).pw ≡ m
-frame_refused m t flags bytes e =
-    let c = Frame t flags bytes in
-    leaves m c ∙ left_alone m t flags bytes (refusal_of m c) (ap refuses (sym (refused_as m c)) ∙ e)
+-- a refused call leaves all as before, but for a job start that is turned away
+refused_leaves : (m : Pw) (c : Call) → meter_turned_away m (about c).named ≡ m → is_err (step m c).answer ≡ true → (step m c).pw ≡ m
+refused_leaves m c t e = leaves m c ∙ go (step m c).answer (refusal_of m c) (refused_as m c) e
+  where
+    go : (a : Result Answer Refusal) (n : Option Refusal) → result_err a ≡ n → is_err a ≡ true → left_by n m c ≡ m
+    go (Ok x) n i r = absurd (true≢false (sym r))
+    go (Err n) None i r = cc
+    go (Err n) (Some refusal.Method) i r = t
+    go (Err n) (Some o) i r = refl
 
 module _ (w : Calibration) (m : Pw) (b : Book) (h : Keeps w m b) where
   abbrev reapplied : ℕ → Step
@@ -104,11 +92,11 @@ module _ (w : Calibration) (m : Pw) (b : Book) (h : Keeps w m b) where
 
   -- what a call leaves, by what the book makes of it where it is accepted
   abbrev Kept : Book → Step → Type 0
-  Kept u s = Keeps w s.pw (cond (refuses s.answer.refusal) b u)
+  Kept u s = Keeps w s.pw (cond (is_err s.answer) b u)
 
-  refused_keeps : (u : Book) (n : Refusal) → refuses n ≡ true → Kept u (refused_with n m)
+  refused_keeps : (u : Book) (n : Refusal) → Kept u (refused_with n m)
   unfolding refused_with
-  refused_keeps u n r = rw r h
+  refused_keeps u n = h
 
   -- ---- the orders that end a job
 
@@ -125,20 +113,17 @@ module _ (w : Calibration) (m : Pw) (b : Book) (h : Keeps w m b) where
   unfolding bench_in
   struck_rel n c j =
       record {
-        zeros = ap zeros_in c ∙ h.rel.zeros;
-        no_zeros = λ e. subst NoZeros (sym c) (h.rel.no_zeros e);
-        gains = λ i i4. ap (λ (x : Corrections). get_or x.vgain i nan) c ∙ h.rel.gains i i4;
-        bounded = h.rel.bounded;
+        held = subst (λ (x : Corrections). Holds x b.zeros b.gain) (sym c) h.rel.held;
         room = subst (λ (x : Corrections). Lengths x.zx x.zd n.job.job_zx n.job.job_zd x.vgain n.job.job_raw n.job.job_ref) (sym c)
             (subst RoomWith (sym j) aborted_room);
         runs = ap (λ (x : Job). x.job) j ∙ aborted_none m;
       }
 
-  struck_keeps : (t : ℕ) (s : Step) → Carried t m (aborted m).job m.settings s → Kept (strikes b) s
-  struck_keeps t s (d, used, reading, mark, l, j, x) = rw d (record { calibration = l.1 ∙ h.calibration; rel = struck_rel s.pw l.2 j })
-
-  ends : (t : ℕ) (s : Step) → Carried t m (aborted m).job m.settings s → Kept (strikes b) (cond (late t) (refused_with refusal.Late m) s)
-  ends t s c = either (Kept (strikes b)) (late t) (refused_keeps (strikes b) refusal.Late refl) (struck_keeps t s c)
+  -- refused it leaves all as before, accepted the job's record is that of the aborted one
+  ends : (c : Call) → meter_turned_away m (about c).named ≡ m → changes_job m c ≡ false → (about c).ends_job ≡ true → Kept (strikes b) (step m c)
+  ends c t f j =
+      refused_or_done (λ u. Keeps w (step m c).pw (cond u b (strikes b))) (step m c).answer (λ e. subst (λ (n : Pw). Keeps w n b) (sym (refused_leaves m c t e)) h)
+      (λ d. record { calibration = (made_with m c).1 ∙ h.calibration; rel = struck_rel (step m c).pw (corrections_stay m c f) (ends_job m c j d) })
 
   -- ---- the orders that leave a job, and its bench, as they are
 
@@ -147,7 +132,7 @@ module _ (w : Calibration) (m : Pw) (b : Book) (h : Keeps w m b) where
 
   phase_keeps : Kept b (phase_start m)
   unfolding phase_start refused_with done marked bench_in
-  phase_keeps = either (Kept b) (not m.mode.on) (refused_keeps b refusal.Off refl) (either (Kept b) (m.mode.alt || m.mode.dc) (refused_keeps b refusal.Method refl) (same_bench _ refl refl))
+  phase_keeps = either (Kept b) (not m.mode.on) (refused_keeps b refusal.Off) (either (Kept b) (m.mode.alt || m.mode.dc) (refused_keeps b refusal.Method) (same_bench _ refl refl))
 
   reset_keeps : Kept b (energy_reset m)
   unfolding energy_reset done marked bench_in
@@ -170,10 +155,7 @@ module _ (w : Calibration) (m : Pw) (b : Book) (h : Keeps w m b) where
       record {
         calibration = w-same ∙ h.calibration;
         rel = record {
-          zeros = ap zeros_in c ∙ h.rel.zeros;
-          no_zeros = λ e. subst NoZeros (sym c) (h.rel.no_zeros e);
-          gains = λ i i4. ap (λ (x : Corrections). get_or x.vgain i nan) c ∙ h.rel.gains i i4;
-          bounded = h.rel.bounded;
+          held = subst (λ (x : Corrections). Holds x b.zeros b.gain) (sym c) h.rel.held;
           room = subst (λ (x : Corrections). Lengths x.zx x.zd n.job.job_zx n.job.job_zd x.vgain n.job.job_raw n.job.job_ref) (sym c) room;
           runs = subst (Runs w (bench_in n) b.zeros) (sym (book_idle w m b h none)) j;
         };
@@ -187,10 +169,10 @@ module _ (w : Calibration) (m : Pw) (b : Book) (h : Keeps w m b) where
   reapply_keeps : (t : ℕ) → Kept b (switches.reapply m t)
   unfolding switches.reapply
   reapply_keeps t =
-      either (Kept b) (late t) (refused_keeps b refusal.Late refl)
+      either (Kept b) (late t) (refused_keeps b refusal.Late)
       (by_test (λ u. Kept b (cond (not u) (refused_with refusal.Busy m) (reapplied t))) (eqb m.job.job 0)
-      (λ e. let c = reapply_carried m t in rw c.0 (same_job (reapplied t).pw (eqb-true m.job.job 0 e) c.4.1 c.4.2 c.5))
-      (λ e. refused_keeps b refusal.Busy refl))
+      (λ e. let c = reapply_carried m t in rw c.answer (same_job (reapplied t).pw (eqb-true m.job.job 0 e) c.leaves.1 c.leaves.2 c.job))
+      (λ e. refused_keeps b refusal.Busy))
 
   -- ---- job starts
 
@@ -200,10 +182,7 @@ module _ (w : Calibration) (m : Pw) (b : Book) (h : Keeps w m b) where
       let t = with_job (bench_in m) (noted k (bench_in m)) in
       rw (step_as_law k now 0 t refl)
       (record {
-        zeros = h.rel.zeros;
-        no_zeros = h.rel.no_zeros;
-        gains = h.rel.gains;
-        bounded = h.rel.bounded;
+        held = h.rel.held;
         room = record { zx = h.rel.room.zx; zd = h.rel.room.zd; job_zx = h.rel.room.zx; job_zd = h.rel.room.zd; vgain = h.rel.room.vgain; raw = h.rel.room.raw; ref = h.rel.room.ref };
         runs = step_serves (setting_of w m.ranges b.zeros) t k m.ranges [] 0
             (record { job = refl; res = refl; save = refl; vr = refl; used = refl; low = omega arith; len = refl; results = nothing k t });
@@ -230,10 +209,10 @@ module _ (w : Calibration) (m : Pw) (b : Book) (h : Keeps w m b) where
   unfolding start_job
   start_keeps k t =
       let u = started k m.ranges b in
-      either (Kept u) (late t) (refused_keeps u refusal.Late refl)
-      (either (Kept u) (not m.mode.on) (refused_keeps u refusal.Off refl)
+      either (Kept u) (late t) (refused_keeps u refusal.Late)
+      (either (Kept u) (not m.mode.on) (refused_keeps u refusal.Off)
       (by_test (λ v. Kept u (cond (not v) (refused_with refusal.Busy m) (cond m.mode.alt (refused_with refusal.Method (job_turned_away m k)) (started_step (job_started m k t))))) (eqb m.job.job 0)
-      (λ e. either (Kept u) m.mode.alt (away_kept k (eqb-true m.job.job 0 e)) (accepted_kept k t)) (λ e. refused_keeps u refusal.Busy refl)))
+      (λ e. either (Kept u) m.mode.alt (away_kept k (eqb-true m.job.job 0 e)) (accepted_kept k t)) (λ e. refused_keeps u refusal.Busy)))
 
   -- ---- frames
 
@@ -249,11 +228,11 @@ module _ (w : Calibration) (m : Pw) (b : Book) (h : Keeps w m b) where
     outside_keeps none =
         let l = outside_leaves m t flags bytes (eq-eqb m.job.job 0 none) in
         let k : Keeps w (step m call).pw b = same_job (step m call).pw none (made_with m call).1 l.0 l.1 in
-        either (Keeps w (step m call).pw) (refuses (step m call).answer.refusal) k (changes_nothing b.job (book_idle w m b h none) k)
+        either (Keeps w (step m call).pw) (is_err (step m call).answer) k (changes_nothing b.job (book_idle w m b h none) k)
       where
         changes_nothing : (q : Running) → q ≡ idle → Keeps w (step m call).pw (book b.zeros b.gain q) → Keeps w (step m call).pw (framed w flags (codes_of bytes) b.zeros b.gain q)
         changes_nothing idle e k = k
-        changes_nothing (serving k r fs) e i = absurd (let x : ◌≡◌ {A = ℕ} 0 1 = cc in omega arith)
+        changes_nothing (serving k r fs) e i = cc
 
     -- in a job
     job_keeps : (m.job.job ≡ 0 → ⊥) → Rel w (job_frame t m.calibration flags (codes_of bytes) (bench_in m)).bench noted_as
@@ -263,7 +242,7 @@ module _ (w : Calibration) (m : Pw) (b : Book) (h : Keeps w m b) where
         go : (q : Running) → Runs w (bench_in m) b.zeros q → Rel w (job_frame t w flags (codes_of bytes) (bench_in m)).bench (framed w flags (codes_of bytes) b.zeros b.gain q)
         go idle p = absurd (runs p)
         go (serving k r fs) p =
-            frame_keeps t w b (bench_in m) k r fs (codes_of bytes) (record { zeros = h.rel.zeros; no_zeros = h.rel.no_zeros; gains = h.rel.gains; bounded = h.rel.bounded; room = h.rel.room; runs = p }) flags
+            frame_keeps t w b (bench_in m) k r fs (codes_of bytes) (record { held = h.rel.held; room = h.rel.room; runs = p }) flags
 
     polled_keeps : (m.job.job ≡ 0 → ⊥) → Keeps w (job_polled m t flags (codes_of bytes)).pw noted_as
     unfolding job_polled bench_in
@@ -271,8 +250,8 @@ module _ (w : Calibration) (m : Pw) (b : Book) (h : Keeps w m b) where
 
     in_job_keeps : (m.job.job ≡ 0 → ⊥) → Kept noted_as (step m call)
     in_job_keeps runs =
-        by_test (λ u. Keeps w (step m call).pw (cond u b noted_as)) (refuses (step m call).answer.refusal) (λ e. subst (λ (n : Pw). Keeps w n b) (sym (frame_refused m t flags bytes e)) h)
-        (λ e. subst (λ (s : Step). Keeps w s.pw noted_as) (sym (in_job_law m t flags bytes (ne_eqb m.job.job 0 runs) (none_refused _ e))) (polled_keeps runs))
+        refused_or_done (λ u. Keeps w (step m call).pw (cond u b noted_as)) (step m call).answer (λ e. subst (λ (n : Pw). Keeps w n b) (sym (refused_leaves m call refl e)) h)
+        (λ d. subst (λ (s : Step). Keeps w s.pw noted_as) (sym (in_job_law m t flags bytes (ne_eqb m.job.job 0 runs) d)) (polled_keeps runs))
 
     poll_keeps : Kept noted_as (step m call)
     poll_keeps = go (eqb m.job.job 0) (eqb-true m.job.job 0) (eqb-false m.job.job 0)
@@ -284,12 +263,6 @@ module _ (w : Calibration) (m : Pw) (b : Book) (h : Keeps w m b) where
 -- ---- every call, every list
 
 pub call_keeps : (w : Calibration) (m : Pw) (b : Book) (c : Call) → Keeps w m b → Keeps w (step m c).pw (entry w (asked m c) c b)
-unfolding switches.on switches.off switches.method switches.coupling set_ranges
-call_keeps w m b (On t) h = ends w m b h t _ (on_carried m t)
-call_keeps w m b (Off t) h = ends w m b h t _ (off_carried m t)
-call_keeps w m b (Method t alt) h = ends w m b h t _ (method_carried m t alt)
-call_keeps w m b (SetRanges t v i) h = ends w m b h t _ (ranges_carried m t v i)
-call_keeps w m b (Coupling t a) h = ends w m b h t _ (coupling_carried m t a)
 call_keeps w m b (ZeroJob t) h = start_keeps w m b h Zero t
 call_keeps w m b (GainJob t) h = start_keeps w m b h Gain t
 call_keeps w m b PhaseStart h = phase_keeps w m b h
@@ -298,6 +271,7 @@ call_keeps w m b (Run on) h = run_keeps w m b h on
 call_keeps w m b (Reapply t) h = reapply_keeps w m b h t
 call_keeps w m b (SetSettings s) h = settings_keeps w m b h s
 call_keeps w m b (Frame t flags bytes) h = poll_keeps w m b h t flags bytes
+call_keeps w m b c h = ends w m b h c refl refl refl
 
 list_keeps : (w : Calibration) (cs : List Call) (m : Pw) (b : Book) → Keeps w m b → Keeps w (after m cs) (books w m cs b)
 list_keeps w [] m b h = h
@@ -311,10 +285,7 @@ new_keeps d w =
     record {
       calibration = refl;
       rel = record {
-        zeros = refl;
-        no_zeros = λ e. (refl, refl, refl);
-        gains = gains;
-        bounded = λ i x e. absurd (let y : ◌≡◌ {A = ℕ} 0 1 = cc in omega arith);
+        held = record { zeros = refl; no_zeros = λ e. (refl, refl, refl); gains = gains; bounded = λ i x e. cc };
         room = record { zx = refl; zd = refl; job_zx = refl; job_zd = refl; vgain = refl; raw = refl; ref = refl };
         runs = refl;
       };
@@ -327,18 +298,13 @@ new_keeps d w =
     gains (suc (suc (suc zero))) h = refl
     gains (suc (suc (suc (suc i)))) h = absurd (omega arith)
 
-made_keeps : (d : Description) (words : List ℕ) (valid : Bool) → (make d words valid).refusal ≡ refusal.Done → Keeps (fed words valid) (make d words valid).pw blank
-unfolding not_made
-made_keeps d words valid e = rw (makes d words valid) (go (six_in_bounds d) (eqb (length words) 73) (sym (ap (λ (a : Made). a.refusal) (makes d words valid)) ∙ e))
+made_keeps : (d : Description) (words : List ℕ) (valid : Bool) (m : Pw) → make d words valid ≡ Ok m → Keeps (fed words valid) m blank
+made_keeps d words valid m e = go (six_in_bounds d) (eqb (length words) 73) (sym (makes d words valid) ∙ e)
   where
-    new : Made
-    new = record { refusal = refusal.Done; pw = new_pw d (fed words valid) }
+    go : (six enough : Bool) → cond six (cond enough (Ok (new_pw d (fed words valid))) (Err refusal.Words)) (Err refusal.Description) ≡ Ok m → Keeps (fed words valid) m blank
+    go true true i = let same : new_pw d (fed words valid) ≡ m = cc in subst (λ (n : Pw). Keeps (fed words valid) n blank) same (new_keeps d (fed words valid))
+    go true false i = cc
+    go false enough i = cc
 
-    go : (six enough : Bool) → let a = cond six (cond enough new (not_made refusal.Words)) (not_made refusal.Description) in a.refusal ≡ refusal.Done → Keeps (fed words valid) a.pw blank
-    go true true i = new_keeps d (fed words valid)
-    go true false i = absurd (let y : ◌≡◌ {A = ℕ} 0 1 = cc in omega arith)
-    go false enough i = absurd (let y : ◌≡◌ {A = ℕ} 0 1 = cc in omega arith)
-
-pub reached : (d : Description) (words : List ℕ) (valid : Bool) → (make d words valid).refusal ≡ refusal.Done → (cs : List Call)
-    → let m = (make d words valid).pw in Keeps (fed words valid) (after m cs) (books (fed words valid) m cs blank)
-reached d words valid e cs = let m = (make d words valid).pw in list_keeps (fed words valid) cs m blank (made_keeps d words valid e)
+pub reached : (d : Description) (words : List ℕ) (valid : Bool) (m : Pw) → make d words valid ≡ Ok m → (cs : List Call) → Keeps (fed words valid) (after m cs) (books (fed words valid) m cs blank)
+reached d words valid m e cs = list_keeps (fed words valid) cs m blank (made_keeps d words valid m e)

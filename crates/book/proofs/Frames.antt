@@ -155,10 +155,7 @@ module _ (now : ℕ) (w : Calibration) (b : Book) (t : Bench) (k : Kind) (r : Ra
       rw (kind_is k u.job sv.job)
       (step_done_keeps k now w b u r more (mean_of u.job.job_a) (mean_of u.job.job_b)
       (record {
-        zeros = rel.zeros;
-        no_zeros = rel.no_zeros;
-        gains = rel.gains;
-        bounded = rel.bounded;
+        held = rel.held;
         room = rel.room;
         job = sv.job;
         res = sv.res;
@@ -183,7 +180,7 @@ module _ (now : ℕ) (w : Calibration) (b : Book) (t : Bench) (k : Kind) (r : Ra
       both Kept (ltb (count_up t.job.job_n) job_n) (ltb (suc (length fs)) (begins lay (suc at)))
       (ltb_same (count_up t.job.job_n) 3 (suc (length fs)) (begins lay (suc at)) (λ h. omega (arith, sv.len, new)) (λ h. omega (arith, sv.len, new)))
       (λ h. goes_on (summed q (one_used t))
-      (record { zeros = rel.zeros; no_zeros = rel.no_zeros; gains = rel.gains; bounded = rel.bounded; room = rel.room; runs = counted_serves set t k r fs f sv q e no-skip (omega (arith, new, ltb-true (count_up t.job.job_n) 3 h)) }))
+      (record { held = rel.held; room = rel.room; runs = counted_serves set t k r fs f sv q e no-skip (omega (arith, new, ltb-true (count_up t.job.job_n) 3 h)) }))
       (λ h. third q e no-skip (omega (arith, new, ltb-false (count_up t.job.job_n) 3 h)))
     where
       new : count_up t.job.job_n ≡ suc t.job.job_n
@@ -195,12 +192,12 @@ module _ (now : ℕ) (w : Calibration) (b : Book) (t : Bench) (k : Kind) (r : Ra
       both Kept (ltb 0 t.cycle.skip) (ltb (length fs) (first lay at))
       (ltb_same 0 t.cycle.skip (length fs) (first lay at) (λ h. omega (arith, sv.len, sv.none_yet h)) (λ h. omega (arith, sv.len)))
       (λ h. goes_on (dropped (one_used t))
-      (record { zeros = rel.zeros; no_zeros = rel.no_zeros; gains = rel.gains; bounded = rel.bounded; room = rel.room; runs = dropped_serves set t k r fs f sv (ltb-true 0 t.cycle.skip h) }))
+      (record { held = rel.held; room = rel.room; runs = dropped_serves set t k r fs f sv (ltb-true 0 t.cycle.skip h) }))
       (λ h. let no-skip : t.cycle.skip ≡ 0 = omega (arith, ltb-false 0 t.cycle.skip h) in
-      both Kept (signal (place_in t.job) (old_of (zeros_in t.corrections) at) f) (signal_at set lay at f) (cc (place_in_law set t k r fs sv, rel.zeros))
-      (λ _. struck_keeps w b k r more (one_used t) jr_signal rel.zeros rel.no_zeros rel.gains rel.bounded rel.room sv.save (used_new set t k r fs f sv))
+      both Kept (signal (place_in t.job) (old_of (zeros_in t.corrections) at) f) (signal_at set lay at f) (cc (place_in_law set t k r fs sv, rel.held.zeros))
+      (λ _. struck_keeps w b k r more (one_used t) jr_signal rel.held rel.room sv.save (used_new set t k r fs f sv))
       (λ _. counted_keeps (reading_of (place_in t.job) w t.ranges.vr (zeros_in t.corrections) f)
-      (cc (place_in_law set t k r fs sv, rel.zeros, sv.vr, reading_new set lay fs f at t.job.job_n (omega (arith, sv.len)))) no-skip))
+      (cc (place_in_law set t k r fs sv, rel.held.zeros, sv.vr, reading_new set lay fs f at t.job.job_n (omega (arith, sv.len)))) no-skip))
 
   module _ (flags : ℕ) where
     pub ready_same : ready (place_in t.job) flags ≡ ready (place_for set k fs) flags

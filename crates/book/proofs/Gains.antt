@@ -9,17 +9,15 @@ use lib.Dec.{eqb, ltb}
 use lib.Ieee.{Float, nan}
 use lib.ListN.{length, get_or, set, length-set}
 use lib.Seq.{get_or-set_same, get_or-set_other}
+use Rattle.std.specs.Prelude.{Result, Ok, Err}
 use Rattle.codes.specs.declared.Codes.{Codes}
 use Rattle.tables.specs.Bounds.{at_most}
-use Rattle.tables.specs.Constants.{jr_small, jr_big, jr_unstable, jr_range}
 use Rattle.tables.specs.Gain.{plausible}
 use Rattle.tables.specs.declared.calibration.Calibration.{Calibration}
 use Rattle.state.specs.declared.Ranges.{Ranges}
 use Rattle.steps.specs.declared.place.Kind.TheVariants.{Gain}
-use Rattle.steps.specs.declared.verdict.RawVerdict.{RawVerdict}
-use Rattle.steps.specs.declared.verdict.RawVerdict.TheVariants.{Small, Big, Fair}
-use Rattle.steps.specs.declared.verdict.GainVerdict.{GainVerdict}
-use Rattle.steps.specs.declared.verdict.GainVerdict.TheVariants.{Unstable, Outside, Good as Found}
+use Rattle.steps.specs.declared.error.JobError.{JobError}
+use Rattle.steps.specs.Error.{error_number}
 use Rattle.steps.specs.Place.{dc_steps, layout_of}
 use Rattle.steps.specs.Reading.{zeros_in}
 use Rattle.steps.specs.Verdict.{is_dc, part, raw_verdict}
@@ -61,12 +59,11 @@ at_most_law m n = go (ltb n m) (ltb-true n m) (ltb-false n m)
 
 module _ (w : Calibration) (b : Book) (r : Ranges) (fs : List Codes) where
   struck_by : (t : Bench) (n res : ℕ) → Full w b t Gain r fs n → Good w b Gain r fs (ended res t) (struck res)
-  struck_by t n res h = struck_keeps w b Gain r fs t res h.zeros h.no_zeros h.gains h.bounded h.room h.save h.used
+  struck_by t n res h = struck_keeps w b Gain r fs t res h.held h.room h.save h.used
 
-  raw_end_keeps : (now : ℕ) (t : Bench) (v : RawVerdict) → Full w b t Gain r fs (suc t.job.job_step) → t.job.job_step < 3 → Good w b Gain r fs (by_raw now v t).bench (raw_out v)
-  raw_end_keeps now t Small h low = struck_by t (suc t.job.job_step) jr_small h
-  raw_end_keeps now t Big h low = struck_by t (suc t.job.job_step) jr_big h
-  raw_end_keeps now t Fair h low = next_keeps w b Gain r fs now t h (omega (arith, three_steps t.job.job_dc))
+  raw_end_keeps : (now : ℕ) (t : Bench) (v : Result (Unit {0}) JobError) → Full w b t Gain r fs (suc t.job.job_step) → t.job.job_step < 3 → Good w b Gain r fs (by_raw now v t).bench (raw_out v)
+  raw_end_keeps now t (Err e) h low = struck_by t (suc t.job.job_step) (error_number e) h
+  raw_end_keeps now t (Ok x) h low = next_keeps w b Gain r fs now t h (omega (arith, three_steps t.job.job_dc))
 
   -- the range's gain is now the one found, and the others' are as they were
   abbrev with_gain : Float → ℕ → RangeGain
@@ -79,20 +76,19 @@ module _ (w : Calibration) (b : Book) (r : Ranges) (fs : List Codes) where
       go true e = subst (λ (y : RangeGain). plausible (stored y) ≡ true) e p
       go false e = h i x e
 
-  gain_end_keeps : (t : Bench) (n : ℕ) (v : GainVerdict) → ((g : Float) → v ≡ Found g → plausible g ≡ true) → Full w b t Gain r fs n → Good w b Gain r fs (by_gain v t).bench (gain_out v)
+  gain_end_keeps : (t : Bench) (n : ℕ) (v : Result Float JobError) → ((g : Float) → v ≡ Ok g → plausible g ≡ true) → Full w b t Gain r fs n → Good w b Gain r fs (by_gain v t).bench (gain_out v)
   unfolding zeros_in
-  gain_end_keeps t n Unstable p h = struck_by t n jr_unstable h
-  gain_end_keeps t n Outside p h = struck_by t n jr_range h
-  gain_end_keeps t n (Found g) p h =
-      end_keeps w b Gain r fs (gain_stored g t) (gained g) b.zeros (with_gain g) refl h.zeros h.no_zeros (λ i i4. rw (at_most_law 3 t.ranges.vr, h.vr) (one i i4 (eqb i (min r.vr 3)) refl))
-      (bounded_with g (p g refl) h.bounded)
+  gain_end_keeps t n (Err e) p h = struck_by t n (error_number e) h
+  gain_end_keeps t n (Ok g) p h =
+      end_keeps w b Gain r fs (gain_stored g t) (gained g) b.zeros (with_gain g) refl
+      (record { zeros = h.held.zeros; no_zeros = h.held.no_zeros; gains = λ i i4. rw (at_most_law 3 t.ranges.vr, h.vr) (one i i4 (eqb i (min r.vr 3)) refl); bounded = bounded_with g (p g refl) h.held.bounded })
       (record { zx = h.room.zx; zd = h.room.zd; job_zx = h.room.job_zx; job_zd = h.room.job_zd; vgain = rw length-set h.room.vgain; raw = h.room.raw; ref = h.room.ref }) h.save h.used
     where
       one : (i : ℕ) → i < 4 → (u : Bool) → eqb i (min r.vr 3) ≡ u → get_or (set t.corrections.vgain (min r.vr 3) g) i nan ≡ stored (cond u (earned g) (b.gain i))
       one i i4 true q =
           let x : i ≡ min r.vr 3 = eqb-true _ _ q in
           rw x (get_or-set_same t.corrections.vgain (min r.vr 3) g nan (omega (arith, h.room.vgain)))
-      one i i4 false q = get_or-set_other t.corrections.vgain (min r.vr 3) i g nan (eqb-false _ _ q) ∙ h.gains i i4
+      one i i4 false q = get_or-set_other t.corrections.vgain (min r.vr 3) i g nan (eqb-false _ _ q) ∙ h.held.gains i i4
 
 -- what a raw step leaves with the job
 raw_parts : (c : Setting) (t : Bench) (fs : List Codes) (d : Bool) (x y : Float) → d ≡ dc_of c fs → part d x y ≡ raw_at c d fs t.job.job_step → length t.job.job_raw ≡ 2
@@ -178,10 +174,7 @@ module _ (w : Calibration) (b : Book) (t : Bench) (r : Ranges) (fs : List Codes)
       subst (λ (v : ℕ). Good w b Gain r fs (by_raw now (raw_verdict D v X Y) (raw_noted D X Y t)).bench (raw_out (verdict_of c D fs s))) (sym h.vr)
       (raw_end_keeps w b r fs now (raw_noted D X Y t) (verdict_of c D fs s)
       (record {
-        zeros = h.zeros;
-        no_zeros = h.no_zeros;
-        gains = h.gains;
-        bounded = h.bounded;
+        held = h.held;
         room = record { zx = h.room.zx; zd = h.room.zd; job_zx = h.room.job_zx; job_zd = h.room.job_zd; vgain = h.room.vgain; raw = rw length-set h.room.raw; ref = h.room.ref };
         job = h.job;
         res = h.res;
@@ -202,7 +195,7 @@ module _ (w : Calibration) (b : Book) (t : Bench) (r : Ranges) (fs : List Codes)
 
   noted_full : (n : ℕ) → GainParts c n t.job.job_dc t.job.job_raw noted.job.job_ref fs → Full w b noted Gain r fs n
   noted_full n p =
-      record { zeros = h.zeros; no_zeros = h.no_zeros; gains = h.gains; bounded = h.bounded; room = noted_room; job = h.job; res = h.res; save = h.save; vr = h.vr; used = h.used; low = h.low; len = h.len; results = p }
+      record { held = h.held; room = noted_room; job = h.job; res = h.res; save = h.save; vr = h.vr; used = h.used; low = h.low; len = h.len; results = p }
 
   module _ (odd : s % 2 ≡ 1) where
     later : 0 < s
@@ -246,7 +239,7 @@ module _ (w : Calibration) (b : Book) (t : Bench) (r : Ranges) (fs : List Codes)
     judged_keeps : s ≡ 3 → Good w b Gain r fs (judged noted).bench (gain_out (ratio_of c D fs))
     unfolding judged
     judged_keeps e =
-        subst (λ (v : GainVerdict). Good w b Gain r fs (by_gain v noted).bench (gain_out (ratio_of c D fs))) (sym (verdict e))
+        subst (λ (v : Result Float JobError). Good w b Gain r fs (by_gain v noted).bench (gain_out (ratio_of c D fs))) (sym (verdict e))
         (gain_end_keeps w b r fs noted s (ratio_of c D fs) (good_plausible (raw_at c D fs 0) (ref_at c D fs 1) (raw_at c D fs 2) (ref_at c D fs 3)) (noted_full s (second_noted e)))
 
     ref_done_law : Good w b Gain r fs (ref_done now X t).bench (cond (ltb s 3) going (gain_out (ratio_of c D fs)))

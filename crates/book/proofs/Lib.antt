@@ -7,6 +7,7 @@ pub mod Every
 pub mod Counts
 pub mod InForce
 pub mod Demand3
+pub mod Last
 pub mod Earned
 pub mod Program
 pub mod Sample

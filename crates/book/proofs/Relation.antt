@@ -12,6 +12,7 @@ use Rattle.codes.specs.declared.Codes.{Codes}
 use Rattle.tables.specs.Constants.{jr_run}
 use Rattle.tables.specs.Gain.{plausible}
 use Rattle.tables.specs.declared.calibration.Calibration.{Calibration}
+use Rattle.state.specs.declared.Corrections.{Corrections}
 use Rattle.state.specs.declared.Job.{Job}
 use Rattle.state.specs.declared.Ranges.{Ranges}
 use Rattle.steps.specs.declared.place.Kind.{Kind}
@@ -82,18 +83,19 @@ abbrev pub Runs : Calibration → Bench → Zeros → Running → Type 0
 Runs w t z idle = t.job.job ≡ 0
 Runs w t z (serving k r fs) = Serving (setting_of w r z) t k r fs
 
-abbrev pub Gains : Bench → (ℕ → RangeGain) → Type 0
-Gains t g = (i : ℕ) → i < 4 → get_or t.corrections.vgain i nan ≡ stored (g i)
-
 -- each gain that a job has earned is from 0.9 to 1.1
 abbrev pub Bounded : (ℕ → RangeGain) → Type 0
 Bounded g = (i : ℕ) (x : Float) → g i ≡ earned x → plausible x ≡ true
 
+-- these zeros and gains are the book's
+pub record Holds (c : Corrections) (z : Zeros) (g : ℕ → RangeGain) : Type 0 where
+  pub zeros : zeros_in c ≡ z
+  pub no_zeros : z ≡ none → NoZeros c
+  pub gains : (i : ℕ) → i < 4 → get_or c.vgain i nan ≡ stored (g i)
+  pub bounded : Bounded g
+
 pub record Rel (w : Calibration) (t : Bench) (b : Book) : Type 0 where
-  pub zeros : zeros_in t.corrections ≡ b.zeros
-  pub no_zeros : b.zeros ≡ none → NoZeros t.corrections
-  pub gains : Gains t b.gain
-  pub bounded : Bounded b.gain
+  pub held : Holds t.corrections b.zeros b.gain
   pub room : Room t
   pub runs : Runs w t b.zeros b.job
 

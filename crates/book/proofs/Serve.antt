@@ -18,7 +18,7 @@ use Rattle.state.specs.Fresh.{no_time}
 use Rattle.steps.specs.declared.place.Kind.{Kind}
 use Rattle.steps.specs.declared.place.Kind.TheVariants.{Zero, Gain}
 use Rattle.steps.specs.Place.{zero_steps, kind_number, layout_of, place_of, drops_of, stat_of, step_ranges}
-use Rattle.steps.specs.Reading.{Zeros, none, zeros_in}
+use Rattle.steps.specs.Reading.{Zeros, zeros_in}
 use Rattle.steps.specs.Verdict.{zero_mean, part}
 use Rattle.jobs.specs.declared.bench.Bench.{Bench}
 use Rattle.jobs.specs.With.{with_row}
@@ -26,9 +26,9 @@ use Rattle.jobs.specs.Bench.{place_in, ended, at_step, step_at, next}
 use Rattle.jobs.specs.Step.{zx_noted, zd_noted, zeros_stored, zero_done}
 use Rattle.jobs.proofs.Counts.{one_more}
 use Rattle.book.specs.Book.{measures, drops, begins, last_of, Setting, mean_x, mean_y, Outcome, going, struck, zeroed, tab, zero_at, thirteen, raw_at, ref_at, finished, RangeGain, idle, Book, book, entered, setting_of}
-use Rattle.book.specs.Demand3.{NoZeros, result_of}
+use Rattle.book.specs.Demand3.{result_of}
 use Rattle.book.proofs.Lists.{begins_mono, mean_x_old, mean_y_old, dc_old, tab_ext}
-use Rattle.book.proofs.Relation.{Room, ZeroParts, Results, lay_in, Serving, Gains, Bounded, Good, kind_is, last_low, step_vr, meter_place, meter_drops}
+use Rattle.book.proofs.Relation.{Room, ZeroParts, Results, lay_in, Serving, Holds, Good, kind_is, last_low, step_vr, meter_place, meter_drops}
 
 -- ---- what stays with one more frame
 
@@ -111,10 +111,7 @@ step_serves c t k r fs s h =
 
 -- the bench when its step has its third reading, the last of fs, and what the steps before n have left is noted
 pub record Full (w : Calibration) (b : Book) (t : Bench) (k : Kind) (r : Ranges) (fs : List Codes) (n : ℕ) : Type 0 where
-  pub zeros : zeros_in t.corrections ≡ b.zeros
-  pub no_zeros : b.zeros ≡ none → NoZeros t.corrections
-  pub gains : Gains t b.gain
-  pub bounded : Bounded b.gain
+  pub held : Holds t.corrections b.zeros b.gain
   pub room : Room t
   pub job : t.job.job ≡ kind_number k
   pub res : t.job.job_res ≡ jr_run
@@ -127,16 +124,14 @@ pub record Full (w : Calibration) (b : Book) (t : Bench) (k : Kind) (r : Ranges)
 
 module _ (w : Calibration) (b : Book) (k : Kind) (r : Ranges) (fs : List Codes) where
   -- the job has ended, with these zeros and gains in the book
-  pub end_keeps : (t : Bench) (o : Outcome) (z : Zeros) (g : ℕ → RangeGain) → entered k r fs o b.zeros b.gain ≡ book z g idle → zeros_in t.corrections ≡ z → (z ≡ none → NoZeros t.corrections) → Gains t g → Bounded g → Room t
-      → t.job.job_save ≡ r → t.job.used ≡ length fs → Good w b k r fs (ended (result_of o) t) o
+  pub end_keeps : (t : Bench) (o : Outcome) (z : Zeros) (g : ℕ → RangeGain) → entered k r fs o b.zeros b.gain ≡ book z g idle → Holds t.corrections z g → Room t → t.job.job_save ≡ r → t.job.used ≡ length fs
+      → Good w b k r fs (ended (result_of o) t) o
   unfolding ended
-  end_keeps t o z g e hz hn hg hb room save used =
-      record { rel = rw e (record { zeros = hz; no_zeros = hn; gains = hg; bounded = hb; room = room; runs = refl }); back = λ _. save; used = used; res = refl }
+  end_keeps t o z g e held room save used = record { rel = rw e (record { held = held; room = room; runs = refl }); back = λ _. save; used = used; res = refl }
 
   -- it ends otherwise than well
-  pub struck_keeps : (t : Bench) (res : ℕ) → zeros_in t.corrections ≡ b.zeros → (b.zeros ≡ none → NoZeros t.corrections) → Gains t b.gain → Bounded b.gain → Room t → t.job.job_save ≡ r → t.job.used ≡ length fs
-      → Good w b k r fs (ended res t) (struck res)
-  struck_keeps t res hz hn hg hb room save used = end_keeps t (struck res) b.zeros b.gain refl hz hn hg hb room save used
+  pub struck_keeps : (t : Bench) (res : ℕ) → Holds t.corrections b.zeros b.gain → Room t → t.job.job_save ≡ r → t.job.used ≡ length fs → Good w b k r fs (ended res t) (struck res)
+  struck_keeps t res = end_keeps t (struck res) b.zeros b.gain refl
 
   pub next_keeps : (now : ℕ) (t : Bench) → Full w b t k r fs (suc t.job.job_step) → t.job.job_step < last_of (lay_in k t) → Good w b k r fs (next now t).bench going
   unfolding next
@@ -147,10 +142,7 @@ module _ (w : Calibration) (b : Book) (k : Kind) (r : Ranges) (fs : List Codes) 
       rw (one_more s small, step_as_law k now (suc s) t h.job)
       (record {
         rel = record {
-          zeros = h.zeros;
-          no_zeros = h.no_zeros;
-          gains = h.gains;
-          bounded = h.bounded;
+          held = h.held;
           room = h.room;
           runs = step_serves c t k r fs (suc s) (record { job = h.job; res = h.res; save = h.save; vr = h.vr; used = h.used; low = low; len = h.len; results = h.results });
         };
@@ -210,10 +202,7 @@ module _ (w : Calibration) (b : Book) (t : Bench) (r : Ranges) (fs : List Codes)
   noted_zx s6 =
       next_keeps w b Zero r fs now (zx_noted z t)
       (record {
-        zeros = h.zeros;
-        no_zeros = h.no_zeros;
-        gains = h.gains;
-        bounded = h.bounded;
+        held = h.held;
         job = h.job;
         res = h.res;
         save = h.save;
@@ -230,10 +219,7 @@ module _ (w : Calibration) (b : Book) (t : Bench) (r : Ranges) (fs : List Codes)
   noted_zd s6 s12 =
       next_keeps w b Zero r fs now (zd_noted z t)
       (record {
-        zeros = h.zeros;
-        no_zeros = h.no_zeros;
-        gains = h.gains;
-        bounded = h.bounded;
+        held = h.held;
         job = h.job;
         res = h.res;
         save = h.save;
@@ -248,7 +234,7 @@ module _ (w : Calibration) (b : Book) (t : Bench) (r : Ranges) (fs : List Codes)
 
   stores : 12 ≤ s → Kept (ended jr_ok (zeros_stored z t)) (zeroed (thirteen c fs))
   stores s12 =
-      end_keeps w b Zero r fs (zeros_stored z t) (zeroed (thirteen c fs)) (thirteen c fs) b.gain refl (all_thirteen s12) (λ e. absurd (let x : ◌≡◌ {A = ℕ} 0 1 = cc in omega arith)) h.gains h.bounded
+      end_keeps w b Zero r fs (zeros_stored z t) (zeroed (thirteen c fs)) (thirteen c fs) b.gain refl (record { zeros = all_thirteen s12; no_zeros = λ e. cc; gains = h.held.gains; bounded = h.held.bounded })
       (record { zx = h.room.job_zx; zd = h.room.job_zd; job_zx = h.room.job_zx; job_zd = h.room.job_zd; vgain = h.room.vgain; raw = h.room.raw; ref = h.room.ref }) h.save h.used
 
   pub zero_done_keeps : Kept (zero_done now z t).bench (finished Zero c fs s)

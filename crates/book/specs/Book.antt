@@ -1,10 +1,10 @@
 -- The book of document 01: "It holds the zeros, a gain for each range and a running job, at first none of these." A running job is its kind, the ranges and automatic marks found, and the ready frames that it has used. Which step a frame serves, what is dropped, readings, means, ratios and outcomes are worked out from that list.
--- The formulas of one reading, one mean and one verdict, the old zero of a step and the order of steps that a kind has are the source's as crates/steps renders them, and what a frame's bytes say is crates/codes's; the steps themselves, the drops, the list, and what ends a job and how are written out here.
-use Rattle.std.specs.Prelude.{Bool, cond, List, [], ◌∷◌, ◌++◌, ℕ, zero, suc, ◌+◌, ◌%◌, min, ltb, leb, eqb, ℤ, pos, get_or, length, Float}
+-- The formulas of one reading, one mean and one verdict, the old zero of a step and the order of steps that a kind has are the source's as crates/steps renders them, and what a frame's bytes say is crates/codes's; which orders start a job or end it is crates/meter's (`about`). The steps themselves, the drops, the list, and what a start, an end and a frame do to a job are written out here.
+use Rattle.std.specs.Prelude.{Bool, cond, List, [], ◌∷◌, ◌++◌, ℕ, zero, suc, ◌+◌, ◌%◌, min, ltb, leb, eqb, ℤ, pos, get_or, length, Float, Result, Ok, Err, is_err}
 use Rattle.numbers.specs.Binary32.{◌+f◌, zero_f}
 use Rattle.codes.specs.declared.Codes.{Codes}
 use Rattle.codes.specs.Frame.{codes_of}
-use Rattle.tables.specs.Constants.{jr_signal, jr_small, jr_big, jr_unstable, jr_range}
+use Rattle.tables.specs.Constants.{jr_signal}
 use Rattle.tables.specs.declared.calibration.Calibration.{Calibration}
 use Rattle.state.specs.declared.Pw.{Pw}
 use Rattle.state.specs.declared.Ranges.{Ranges}
@@ -13,15 +13,12 @@ use Rattle.steps.specs.declared.place.Kind.TheVariants.{Zero, Gain}
 use Rattle.steps.specs.declared.place.Place.{Place}
 use Rattle.steps.specs.declared.place.Place.TheVariants.{ZeroX, ZeroD, ZeroY, Raw, RefDc, RefAc}
 use Rattle.steps.specs.declared.reading.Reading.{Reading}
-use Rattle.steps.specs.declared.verdict.RawVerdict.{RawVerdict}
-use Rattle.steps.specs.declared.verdict.RawVerdict.TheVariants.{Small, Big, Fair}
-use Rattle.steps.specs.declared.verdict.GainVerdict.{GainVerdict}
-use Rattle.steps.specs.declared.verdict.GainVerdict.TheVariants.{Unstable, Outside, Good}
+use Rattle.steps.specs.declared.error.JobError.{JobError}
+use Rattle.steps.specs.Error.{error_number}
 use Rattle.steps.specs.Place.{Layout, zero_steps, dc_steps, ac_steps, layout_of, ready}
 use Rattle.steps.specs.Reading.{Zeros, none, kept, old_of, reading_of, signal}
 use Rattle.steps.specs.Verdict.{mean_of, zero_mean, is_dc, part, raw_verdict, gain_verdict}
-use Rattle.meter.specs.Making.{refuses}
-use Rattle.meter.specs.Calls.{step, Call, On, Off, Method, SetRanges, Coupling, ZeroJob, GainJob, PhaseStart, EnergyReset, Run, Reapply, SetSettings, Frame}
+use Rattle.meter.specs.Calls.{Named, frame, job_start, about, step, Call}
 
 -- ---- which step a ready frame serves: "Each ready frame serves its step: the dropped ones, then three readings"
 
@@ -134,21 +131,19 @@ raw_at c dc fs s = part dc (mean_x c (layout_of Gain dc) fs s) (mean_y c (layout
 abbrev pub ref_at : Setting → Bool → List Codes → ℕ → Float
 ref_at c dc fs s = mean_x c (layout_of Gain dc) fs s
 
-abbrev pub raw_out : RawVerdict → Outcome
-raw_out Small = struck jr_small
-raw_out Big = struck jr_big
-raw_out Fair = going
+abbrev pub raw_out : Result (Unit {0}) JobError → Outcome
+raw_out (Ok x) = going
+raw_out (Err e) = struck (error_number e)
 
-abbrev pub verdict_of : Setting → Bool → List Codes → ℕ → RawVerdict
+abbrev pub verdict_of : Setting → Bool → List Codes → ℕ → Result (Unit {0}) JobError
 verdict_of c dc fs s = raw_verdict dc c.vr (mean_x c (layout_of Gain dc) fs s) (mean_y c (layout_of Gain dc) fs s)
 
 -- "or the half sum the gain"
-abbrev pub gain_out : GainVerdict → Outcome
-gain_out Unstable = struck jr_unstable
-gain_out Outside = struck jr_range
-gain_out (Good g) = gained g
+abbrev pub gain_out : Result Float JobError → Outcome
+gain_out (Ok g) = gained g
+gain_out (Err e) = struck (error_number e)
 
-abbrev pub ratio_of : Setting → Bool → List Codes → GainVerdict
+abbrev pub ratio_of : Setting → Bool → List Codes → Result Float JobError
 ratio_of c dc fs = gain_verdict (raw_at c dc fs 0) (ref_at c dc fs 1) (raw_at c dc fs 2) (ref_at c dc fs 3)
 
 -- the list ends with step s's third reading
@@ -217,25 +212,20 @@ framed w flags f z g (serving k r fs) =
 abbrev pub started : Kind → Ranges → Book → Book
 started k found b = book b.zeros b.gain (serving k found [])
 
--- "strikes it": the five orders by which "these rules or the source end the job"
+-- "strikes it": on, off, method, ranges and coupling, of which crates/meter's `about` says that they end a job
 abbrev pub strikes : Book → Book
 strikes b = book b.zeros b.gain idle
 
--- an accepted call. "Other calls change nothing"
+-- an accepted call that strikes no job, as the table names it. "Other calls change nothing"
+abbrev pub noted : Calibration → Ranges → Named → Book → Book
+noted w found (frame t flags bytes) b = framed w flags (codes_of bytes) b.zeros b.gain b.job
+noted w found (job_start k) b = started k found b
+noted w found _ b = b
+
+-- an accepted call
 abbrev pub note : Calibration → Ranges → Call → Book → Book
-note w found (On t) b = strikes b
-note w found (Off t) b = strikes b
-note w found (Method t alt) b = strikes b
-note w found (SetRanges t v i) b = strikes b
-note w found (Coupling t coup) b = strikes b
-note w found (ZeroJob t) b = started Zero found b
-note w found (GainJob t) b = started Gain found b
-note w found PhaseStart b = b
-note w found EnergyReset b = b
-note w found (Run c) b = b
-note w found (Reapply t) b = b
-note w found (SetSettings s) b = b
-note w found (Frame t flags bytes) b = framed w flags (codes_of bytes) b.zeros b.gain b.job
+-- one "by which these rules or the source end the job" strikes it; a frame's own outcome ends a job in `framed`
+note w found c b = cond (about c).ends_job (strikes b) (noted w found (about c).named b)
 
 -- "Whether a call is refused, and what else a rule asks, is what demand 2's definitions give for the calls up to this one": all that the book is told of the meter, whether this call is refused, and the ranges and marks that it finds
 pub record Asked : Type 0 where
@@ -243,7 +233,7 @@ pub record Asked : Type 0 where
   pub found : Ranges
 
 abbrev pub asked : Pw → Call → Asked
-asked m c = record { refused = refuses (step m c).answer.refusal; found = m.ranges }
+asked m c = record { refused = is_err (step m c).answer; found = m.ranges }
 
 -- "A refused call changes nothing"
 abbrev pub entry : Calibration → Asked → Call → Book → Book

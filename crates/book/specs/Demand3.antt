@@ -1,8 +1,7 @@
 -- Demand 3, stated: of a meter just made and every list of calls, refused ones and smaller clock readings included.
-use Rattle.std.specs.Prelude.{◌≡◌, Bool, true, false, cond, List, [], ◌∷◌, ◌++◌, ℕ, suc, ◌<◌, ◌≤◌, Float, pos, get_or, length, replicate}
+use Rattle.std.specs.Prelude.{◌≡◌, Bool, true, false, cond, List, [], ◌∷◌, ◌++◌, ℕ, suc, ◌<◌, ◌≤◌, Float, pos, get_or, length, replicate, Ok, IsOk}
 use Rattle.std.specs.Float.{nan}
 use Rattle.numbers.specs.Binary32.{zero_f}
-use Rattle.refusals.specs.declared.Refusal.TheVariants as refusal
 use Rattle.codes.specs.declared.Codes.{Codes}
 use Rattle.codes.specs.Frame.{codes_of}
 use Rattle.tables.specs.Bounds.{within}
@@ -17,10 +16,11 @@ use Rattle.steps.specs.declared.place.Kind.{Kind}
 use Rattle.steps.specs.declared.place.Kind.TheVariants.{Zero, Gain}
 use Rattle.steps.specs.Place.{kind_number, ready}
 use Rattle.steps.specs.Reading.{Zeros, none, zeros_in}
+use Rattle.orders.specs.Answer.{used_told}
 use Rattle.orders.specs.Apply.{aborted}
 use Rattle.meter.specs.Making.{make}
 use Rattle.meter.specs.Frame.{with_poll}
-use Rattle.meter.specs.Calls.{step, after, Call, On, Off, Method, SetRanges, Coupling, ZeroJob, GainJob, PhaseStart, EnergyReset, Run, Reapply, SetSettings, Frame}
+use Rattle.meter.specs.Calls.{about, step, after, Call, Frame}
 use Rattle.book.specs.Book.{RangeGain, factory, earned, Running, idle, serving, Book, blank, asked, entry, books, setting_of, place_for, Outcome, going, struck, zeroed, gained, outcome, dc_of}
 
 -- ---- what the book's entries are in a meter
@@ -64,19 +64,8 @@ GoesOn c m r = ((aborted m).ranges ≡ r) × ((aborted m).job.job ≡ 0) × ((ab
 
 -- by an order, which goes on, or by a frame, of which the ranges and marks are said here and the rest in `quiet`, `result`, `zeros` and `gains`; no other call ends a job
 abbrev pub Ended : Call → Pw → Ranges → Type 0
-Ended (On t) m r = GoesOn (On t) m r
-Ended (Off t) m r = GoesOn (Off t) m r
-Ended (Method t alt) m r = GoesOn (Method t alt) m r
-Ended (SetRanges t v i) m r = GoesOn (SetRanges t v i) m r
-Ended (Coupling t coup) m r = GoesOn (Coupling t coup) m r
-Ended (ZeroJob t) m r = ⊥
-Ended (GainJob t) m r = ⊥
-Ended PhaseStart m r = ⊥
-Ended EnergyReset m r = ⊥
-Ended (Run b) m r = ⊥
-Ended (Reapply t) m r = ⊥
-Ended (SetSettings s) m r = ⊥
 Ended (Frame t flags bytes) m r = (step m (Frame t flags bytes)).pw.ranges ≡ r
+Ended c m r = ((about c).ends_job ≡ true) × GoesOn c m r
 
 -- ---- a frame in a job
 
@@ -104,20 +93,20 @@ pub record Agrees (w : Calibration) (m : Pw) (b : Book) : Type 0 where
   pub back : (c : Call) (k : Kind) (r : Ranges) (fs : List Codes) → b.job ≡ serving k r fs → (entry w (asked m c) c b).job ≡ idle → Ended c m r
   -- an accepted frame in a job, its last included
   pub quiet : (t flags : ℕ) (bytes : List ℕ) (k : Kind) (r : Ranges) (fs : List Codes) → b.job ≡ serving k r fs
-      → let s = step m (Frame t flags bytes) in s.answer.refusal ≡ refusal.Done → Quiet m s.pw
+      → let s = step m (Frame t flags bytes) in IsOk s.answer → Quiet m s.pw
   -- its answer "reports how many ready frames the job has used, dropped ones included, the ending frame too"
   pub count : (t flags : ℕ) (bytes : List ℕ) (k : Kind) (r : Ranges) (fs : List Codes) → b.job ≡ serving k r fs
-      → let s = step m (Frame t flags bytes) in s.answer.refusal ≡ refusal.Done
-      → s.answer.used ≡ cond (ready (place_for (setting_of w r b.zeros) k fs) flags) (suc (length fs)) (length fs)
+      → let s = step m (Frame t flags bytes) in IsOk s.answer
+      → used_told s.answer ≡ cond (ready (place_for (setting_of w r b.zeros) k fs) flags) (suc (length fs)) (length fs)
   -- and where it is ready its result is that of the book's outcome
   pub result : (t flags : ℕ) (bytes : List ℕ) (k : Kind) (r : Ranges) (fs : List Codes) → b.job ≡ serving k r fs
-      → let s = step m (Frame t flags bytes) in s.answer.refusal ≡ refusal.Done → ready (place_for (setting_of w r b.zeros) k fs) flags ≡ true
+      → let s = step m (Frame t flags bytes) in IsOk s.answer → ready (place_for (setting_of w r b.zeros) k fs) flags ≡ true
       → s.pw.job.job_res ≡ result_of (outcome k (setting_of w r b.zeros) fs (codes_of bytes))
   -- "One not ready changes only `t_poll`"
   pub not_ready : (t flags : ℕ) (bytes : List ℕ) (k : Kind) (r : Ranges) (fs : List Codes) → b.job ≡ serving k r fs
-      → let s = step m (Frame t flags bytes) in s.answer.refusal ≡ refusal.Done → ready (place_for (setting_of w r b.zeros) k fs) flags ≡ false → s.pw ≡ with_poll m t
+      → let s = step m (Frame t flags bytes) in IsOk s.answer → ready (place_for (setting_of w r b.zeros) k fs) flags ≡ false → s.pw ≡ with_poll m t
   -- "and 0 for a frame taken outside a job"
-  pub outside : (t flags : ℕ) (bytes : List ℕ) → b.job ≡ idle → (step m (Frame t flags bytes)).answer.used ≡ 0
+  pub outside : (t flags : ℕ) (bytes : List ℕ) → b.job ≡ idle → used_told (step m (Frame t flags bytes)).answer ≡ 0
   -- with its next ready frame a job has used at most so many
   pub most : (k : Kind) (r : Ranges) (fs : List Codes) → b.job ≡ serving k r fs → suc (length fs) ≤ most_of k
   -- a zero job that ends well has used 52, a gain job 16 of DC or 22 of AC
@@ -133,5 +122,5 @@ fed words valid = record { words = words; valid = valid }
 -- for every description and words that make a meter, and every list of calls
 abbrev pub Demand3 : Type 0
 Demand3 =
-    (d : Description) (words : List ℕ) (valid : Bool) → (make d words valid).refusal ≡ refusal.Done → (cs : List Call)
-    → let m = (make d words valid).pw in Agrees (fed words valid) (after m cs) (books (fed words valid) m cs blank)
+    (d : Description) (words : List ℕ) (valid : Bool) → (m : Pw) → make d words valid ≡ Ok m → (cs : List Call)
+    → Agrees (fed words valid) (after m cs) (books (fed words valid) m cs blank)

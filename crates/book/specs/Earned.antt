@@ -1,5 +1,5 @@
 -- What the book holds after a list is none (of a gain: the factory's), or was earned by a call of that list; by `Demand3` the meter's zeros and gains are the book's. Such a call is a job's last frame, since with its outcome `entered` leaves no job; and since the book begins blank, the job began with an accepted start in the same list.
-use Rattle.std.specs.Prelude.{◌≡◌, true, false, List, [], ◌∷◌, ◌++◌, ◌⊎◌, ℕ, min, Float}
+use Rattle.std.specs.Prelude.{◌≡◌, true, List, [], ◌∷◌, ◌++◌, ◌⊎◌, ℕ, min, Float, IsOk}
 use Rattle.codes.specs.declared.Codes.{Codes}
 use Rattle.codes.specs.Frame.{codes_of}
 use Rattle.tables.specs.declared.calibration.Calibration.{Calibration}
@@ -8,7 +8,6 @@ use Rattle.state.specs.declared.Ranges.{Ranges}
 use Rattle.steps.specs.declared.place.Kind.{Kind}
 use Rattle.steps.specs.Place.{ready}
 use Rattle.steps.specs.Reading.{Zeros, none}
-use Rattle.meter.specs.Making.{refuses}
 use Rattle.meter.specs.Calls.{step, Call, Frame}
 use Rattle.book.specs.Book.{Outcome, zeroed, gained, outcome, RangeGain, factory, earned, serving, Book, blank, entered, setting_of, place_for, asked, entry, books}
 
@@ -20,7 +19,7 @@ pub record Comes (w : Calibration) (m : Pw) (b : Book) (c : Call) (found : Range
   pub kind : Kind
   pub used : List Codes
   pub is : c ≡ Frame time flags bytes
-  pub accepted : refuses (step m c).answer.refusal ≡ false
+  pub accepted : IsOk (step m c).answer
   pub runs : b.job ≡ serving kind found used
   pub serves : ready (place_for (setting_of w found b.zeros) kind used) flags ≡ true
   pub comes : outcome kind (setting_of w found b.zeros) used (codes_of bytes) ≡ o

@@ -1,2 +1,2 @@
 pub mod Twos
-pub mod Bytes
+pub mod Bits

@@ -39,7 +39,7 @@ module _ (w raw : ℕ) (W : 0 < w) (H : w ≤ 62) where
   abbrev rest : ℕ
   rest = S - 1 - low
 
-  pub span_pos : 0 < S
+  span_pos : 0 < S
   span_pos = subst (λ (s : ℕ). 0 < s) (sym (span_is w H)) (pow_pos w)
 
   span_most : S ≤ 4611686018427387904
@@ -47,12 +47,6 @@ module _ (w raw : ℕ) (W : 0 < w) (H : w ≤ 62) where
 
   low_lt : low < S
   low_lt = mod-lt raw span_pos
-
-  pub low_le : low ≤ S - 1
-  low_le = go low S low_lt
-    where
-      go : (l s : ℕ) → l < s → l ≤ s - 1
-      go l s h = omega arith
 
   half : (2 ^ w ≡ 2 ^ (w - 1) * 2) × (S ≡ 2 ^ w)
   half = (twice w W, span_is w H)
@@ -81,7 +75,7 @@ module _ (w raw : ℕ) (W : 0 < w) (H : w ≤ 62) where
   less_is : negsuc 0 -ℤ to_z w64 rest ≡ negsuc rest
   less_is = ap (λ (z : ℤ). negsuc 0 -ℤ z) (to_z_pos w64 rest rest_lt) ∙ minus_one rest
 
-  pub less_fits : SFits w64 (negsuc 0 -ℤ to_z w64 rest)
+  less_fits : SFits w64 (negsuc 0 -ℤ to_z w64 rest)
   less_fits = subst (λ (z : ℤ). SFits w64 z) (sym less_is) (record { sfits = rest_lt })
 
   pub less : S / 2 ≤ low → to_z w64 (of_z w64 (negsuc 0 -ℤ to_z w64 rest)) ≡ twos_complement w raw

@@ -1,12 +1,11 @@
 -- The code formats of a frame, by document 01: "Bytes 0..2 are AD1, 24 bits; 6..8 are LPF, 19 bits; 9..13 are RMS, 38 bits; each little-endian two's complement
 -- with higher bits ignored." The source: `s24`, `lpf19` and `rms_signed` of hy3131.rs.
-use Rattle.std.specs.Prelude.{ℕ, zero, suc, ◌+◌, ◌-◌, ◌*◌, ◌%◌, ◌^◌, cond, List, eqb, ltb, ℤ, pos, length, get_or}
+use Rattle.std.specs.Prelude.{ℕ, zero, suc, ◌+◌, ◌-◌, ◌*◌, ◌%◌, ◌^◌, cond, List, eqb, ltb, ℤ, pos, length, get_or, Result, Ok, Err}
 use Rattle.std.proofs.Math.IntN.{sub_ℕ}
+use Rattle.refusals.specs.declared.Refusal.{Refusal}
 use Rattle.refusals.specs.declared.Refusal.TheVariants.{Done, Frame}
 use Rattle.refusals.specs.Number.{refusal_number}
 use Rattle.codes.specs.declared.Codes.{Codes}
-use Rattle.codes.specs.declared.Decoded.{Decoded}
-use Rattle.codes.specs.declared.Decoded.TheVariants.{Taken, Refused}
 
 -- the number in n bytes from byte `at` on, the first the least
 unfoldable pub little_endian : ℕ → ℕ → List ℕ → ℕ
@@ -33,11 +32,11 @@ rms_of bytes = twos_complement 38 (little_endian 9 5 bytes)
 abbrev pub codes_of : List ℕ → Codes
 codes_of bytes = record { ad1 = ad1_of bytes; lpf = lpf_of bytes; rms = rms_of bytes }
 
--- they are taken; refused for every length but 14
-unfoldable pub decoded : List ℕ → Decoded
-decoded bytes = cond (eqb (length bytes) 14) (Taken (codes_of bytes)) Refused
+-- they are taken; refused for every length but 14, by refusal 4, "frame not 14 bytes"
+unfoldable pub decoded : List ℕ → Result Codes Refusal
+decoded bytes = cond (eqb (length bytes) 14) (Ok (codes_of bytes)) (Err Frame)
 
--- document 01's number of each answer: done, and refusal 4, "frame not 14 bytes"
-abbrev pub decoded_number : Decoded → ℕ
-decoded_number (Taken codes) = refusal_number Done
-decoded_number Refused = refusal_number Frame
+-- document 01's number of each answer: done, and the refusal's
+abbrev pub decoded_number : Result Codes Refusal → ℕ
+decoded_number (Ok codes) = refusal_number Done
+decoded_number (Err refusal) = refusal_number refusal

@@ -10,13 +10,17 @@ use lib.Dec.{T}
 use lib.Ieee.Fits.{down_pos, add-fits}
 use lib.Ieee.{Float, nan, inf, fin, binary32, up, down, neg, of_int, to_signed, fits, lt, le, eq, of_bits}
 use lib.IntN.{ℤ, pos, neg_ℤ, ◌+ℤ◌, ◌*ℤ◌, neg_ℤ-+ℤ, pos-+ℤ-pos, pos-*ℤ-pos, negsuc-*ℤ-pos}
+use Rattle.std.specs.Prelude.{Result, Ok, Err}
 use Rattle.numbers.specs.Binary32.{one_f, is_finite, abs_of, ◌+f◌, ◌-f◌, ◌*f◌}
 use Rattle.numbers.proofs.Cutting.{inside}
+use Rattle.numbers.proofs.Cases.{either}
+use Rattle.refusals.specs.declared.Refusal.{Refusal}
+use Rattle.refusals.specs.declared.Refusal.TheVariants as refusal
+use Rattle.refusals.specs.Number.{refusal_number}
 use Rattle.figures.specs.Acc.{two63, sum_in_range, count_in_range, acc_step, thousand, add_to, added_number, added_acc}
 use Rattle.figures.specs.Exact.{with_sign, IsWholePlus, Exact, ExactAfter}
 use Rattle.figures.specs.declared.acc.Acc.{Acc}
-use Rattle.figures.specs.declared.acc.Added.TheVariants.{Sum, Full}
-use Rattle.figures.specs.declared.acc.Added.{Added}
+use Rattle.figures.specs.declared.acc.Sum.{Sum}
 use Rattle.figures.proofs.Remainder.{Rest, held, rest_of}
 
 -- ---- whole numbers of one sign
@@ -106,21 +110,32 @@ exactly a j = go (le (neg two63) x) (lt x two63) (count_in_range (a.mj +ℤ w)) 
     w : ℤ
     w = to_signed 63 x
 
-    go : (l u t : Bool) → (l ≡ true → u ≡ true → IsWholePlus x w (x -f of_int binary32 w)) → Exact a j (cond (l && u && t) (Sum (record { mj = a.mj +ℤ w; frac = x -f of_int binary32 w }) w) Full)
+    go : (l u t : Bool) → (l ≡ true → u ≡ true → IsWholePlus x w (x -f of_int binary32 w)) → Exact a j (cond (l && u && t) (Ok (record { acc = record { mj = a.mj +ℤ w; frac = x -f of_int binary32 w }; gained = w })) (Err refusal.Full))
     go true true true k = (refl, refl, k refl refl)
     go true true false k = tt
     go true false t k = tt
     go false u t k = tt
 
-pub with_exact : (a : Acc) (millijoules : Float) (r : Added) → r ≡ acc_step a millijoules → (r ≡ acc_step a millijoules) × Exact a millijoules r
-with_exact a j r e = (e, subst (λ (z : Added). Exact a j z) (sym e) (exactly a j))
+pub with_exact : (a : Acc) (millijoules : Float) (r : Result Sum Refusal) → r ≡ acc_step a millijoules → (r ≡ acc_step a millijoules) × Exact a millijoules r
+with_exact a j r e = (e, subst (λ (z : Result Sum Refusal). Exact a j z) (sym e) (exactly a j))
+
+-- ---- a refusal is full
+abbrev pub OnlyFull : {A : Type 0} → Result A Refusal → Type 0
+OnlyFull (Ok x) = Unit {0}
+OnlyFull (Err r) = r ≡ refusal.Full
+
+pub step_only_full : (a : Acc) (millijoules : Float) → OnlyFull (acc_step a millijoules)
+unfolding acc_step
+step_only_full a j = either OnlyFull (sum_in_range (a.frac +f j) && count_in_range (a.mj +ℤ to_signed 63 (a.frac +f j))) tt refl
 
 -- ---- and of every add to a lent record
-after_answer : (a : Acc) (joules : Float) (r : Added) → Exact a (joules *f thousand) r → ExactAfter a joules (added_number r) (added_acc a r)
+after_answer : (a : Acc) (joules : Float) (r : Result Sum Refusal) → OnlyFull r → Exact a (joules *f thousand) r → ExactAfter a joules (added_number r) (added_acc a r)
 unfolding Exact ExactAfter
-after_answer a joules (Sum b w) h = inl (refl, (w, h))
-after_answer a joules Full h = inr (refl, refl)
+after_answer a joules (Ok s) f h = inl (refl, (s.gained, h))
+after_answer a joules (Err r) f h = inr (ap refusal_number f, refl)
 
-pub exactly_after : (a : Acc) (joules : Float) → ExactAfter a joules (added_number (add_to a joules)) (added_acc a (add_to a joules))
+pub exactly_after : (a : Acc) (joules : Float) (r : Result Sum Refusal) → r ≡ add_to a joules → ExactAfter a joules (added_number r) (added_acc a r)
 unfolding add_to
-exactly_after a joules = after_answer a joules (acc_step a (joules *f thousand)) (exactly a (joules *f thousand))
+exactly_after a joules r e =
+    subst (λ (z : Result Sum Refusal). ExactAfter a joules (added_number z) (added_acc a z)) (sym e)
+    (after_answer a joules (acc_step a (joules *f thousand)) (step_only_full a (joules *f thousand)) (exactly a (joules *f thousand)))

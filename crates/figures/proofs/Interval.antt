@@ -1,38 +1,35 @@
--- The accounting step by its cases: both energies took their part, or one of them is full.
+-- The accounting step by its cases: both energies took their part, or one of them is refused.
 use mathlib.Core.Bool.{Bool}
 use mathlib.Core.Path.{◌≡◌, sym, ap, ◌∙◌}
 use Prim.Native.Nat.{ℕ}
 use lib.Ieee.{Float, binary32, of_int}
-use lib.IntN.{ℤ, pos}
+use lib.IntN.{pos}
+use Rattle.std.specs.Prelude.{Result, Ok, Err}
 use Rattle.numbers.specs.Binary32.{◌*f◌}
+use Rattle.refusals.specs.declared.Refusal.{Refusal}
 use Rattle.figures.specs.Acc.{add_to}
 use Rattle.figures.specs.Tally.{milli, seconds, energy_step, with_time, both, accounting_step}
-use Rattle.figures.specs.declared.acc.Acc.{Acc}
-use Rattle.figures.specs.declared.acc.Added.TheVariants as added
-use Rattle.figures.specs.declared.acc.Added.{Added}
-use Rattle.figures.specs.declared.tally.Accounted.TheVariants.{Full}
+use Rattle.figures.specs.declared.acc.Sum.{Sum}
 use Rattle.figures.specs.declared.tally.Tally.{Tally}
 
 module _ (t : Tally) (dt : ℕ) (p s : Float) (active : Bool) (ms : Float) (told : ms ≡ of_int binary32 (pos dt)) where
   -- what the code's two adds answer is what the definition's do
-  energy_is : (E : Added) → E ≡ energy_step active t.e (p *f (ms *f milli)) → energy_step active t.e (p *f seconds dt) ≡ E
+  energy_is : (E : Result Sum Refusal) → E ≡ energy_step active t.e (p *f (ms *f milli)) → energy_step active t.e (p *f seconds dt) ≡ E
   unfolding seconds
   energy_is E e = ap (λ (x : Float). energy_step active t.e (p *f (x *f milli))) (sym told) ∙ sym e
 
-  apparent_is : (A : Added) → A ≡ add_to t.va (s *f (ms *f milli)) → add_to t.va (s *f seconds dt) ≡ A
+  apparent_is : (A : Result Sum Refusal) → A ≡ add_to t.va (s *f (ms *f milli)) → add_to t.va (s *f seconds dt) ≡ A
   unfolding seconds
   apparent_is A a = ap (λ (x : Float). add_to t.va (s *f (x *f milli))) (sym told) ∙ sym a
 
-  pub counted : (E A : Added) (e va : Acc) (w v : ℤ) → E ≡ energy_step active t.e (p *f (ms *f milli)) → A ≡ add_to t.va (s *f (ms *f milli)) → E ≡ added.Sum e w → A ≡ added.Sum va v
-      → with_time e w va t.t_int dt ≡ accounting_step t dt p s active
+  pub energy_refused : (E : Result Sum Refusal) (r : Refusal) → E ≡ energy_step active t.e (p *f (ms *f milli)) → E ≡ Err r → Err r ≡ accounting_step t dt p s active
   unfolding accounting_step both
-  counted E A e va w v is-e is-a sum-e sum-a = sym (rw (energy_is E is-e ∙ sum-e, apparent_is A is-a ∙ sum-a))
+  energy_refused E r is-e refused = sym (rw (energy_is E is-e ∙ refused))
 
-  pub apparent_full : (E A : Added) (e : Acc) (w : ℤ) → E ≡ energy_step active t.e (p *f (ms *f milli)) → A ≡ add_to t.va (s *f (ms *f milli)) → E ≡ added.Sum e w → A ≡ added.Full
-      → Full ≡ accounting_step t dt p s active
+  pub apparent_refused : (E A : Result Sum Refusal) (e : Sum) (r : Refusal) → E ≡ energy_step active t.e (p *f (ms *f milli)) → A ≡ add_to t.va (s *f (ms *f milli)) → E ≡ Ok e → A ≡ Err r → Err r ≡ accounting_step t dt p s active
   unfolding accounting_step both
-  apparent_full E A e w is-e is-a sum-e full-a = sym (rw (energy_is E is-e ∙ sum-e, apparent_is A is-a ∙ full-a))
+  apparent_refused E A e r is-e is-a sum refused = sym (rw (energy_is E is-e ∙ sum, apparent_is A is-a ∙ refused))
 
-  pub energy_full : (E : Added) → E ≡ energy_step active t.e (p *f (ms *f milli)) → E ≡ added.Full → Full ≡ accounting_step t dt p s active
+  pub counted : (E A : Result Sum Refusal) (e va : Sum) → E ≡ energy_step active t.e (p *f (ms *f milli)) → A ≡ add_to t.va (s *f (ms *f milli)) → E ≡ Ok e → A ≡ Ok va → with_time e va.acc t.t_int dt ≡ accounting_step t dt p s active
   unfolding accounting_step both
-  energy_full E is-e full-e = sym (rw (energy_is E is-e ∙ full-e))
+  counted E A e va is-e is-a sum-e sum-a = sym (rw (energy_is E is-e ∙ sum-e, apparent_is A is-a ∙ sum-a))

@@ -1,13 +1,13 @@
 -- Document 01: "whole part plus fraction equals the rounded sum exactly". Said over whole numbers, so that nothing is rounded in the saying.
-use Rattle.std.specs.Prelude.{◌≡◌, ◌⊎◌, Bool, true, cond, ℕ, ◌*◌, ℤ, pos, neg_ℤ, ◌+ℤ◌, ◌*ℤ◌, Float}
+use Rattle.std.specs.Prelude.{◌≡◌, ◌⊎◌, Bool, true, cond, ℕ, ◌*◌, ℤ, pos, neg_ℤ, ◌+ℤ◌, ◌*ℤ◌, Float, Result, Ok, Err}
 use Rattle.std.specs.Float.{nan, inf, fin}
 use Rattle.std.specs.Float.Ieee.{up, down, lt, to_signed}
 use Rattle.numbers.specs.Binary32.{◌+f◌, ◌*f◌, one_f, is_finite, abs_of}
+use Rattle.refusals.specs.declared.Refusal.{Refusal}
 use Rattle.refusals.specs.declared.Refusal.TheVariants as refusal
 use Rattle.refusals.specs.Number.{refusal_number}
 use Rattle.figures.specs.declared.acc.Acc.{Acc}
-use Rattle.figures.specs.declared.acc.Added.{Added}
-use Rattle.figures.specs.declared.acc.Added.TheVariants.{Sum, Full}
+use Rattle.figures.specs.declared.acc.Sum.{Sum}
 use Rattle.figures.specs.Acc.{thousand}
 
 -- n, or minus n for a minus sign
@@ -33,10 +33,10 @@ IsWholePlus x w f = (is_finite x ≡ true) × (lt (abs_of f) one_f ≡ true) × 
 abbrev pub Parts : Acc → Float → Acc → ℤ → Type 0
 Parts a x b w = (w ≡ to_signed 63 x) × (b.mj ≡ a.mj +ℤ w) × IsWholePlus x w b.frac
 
--- If the answer to millijoules that join a is a sum b, its parts are those of the rounded sum of a's fraction and the millijoules. Of full nothing is asked.
-unfoldable pub Exact : Acc → Float → Added → Type 0
-Exact a millijoules (Sum b w) = Parts a (a.frac +f millijoules) b w
-Exact a millijoules Full = Unit {0}
+-- If the answer to millijoules that join a is a sum, its parts are those of the rounded sum of a's fraction and the millijoules. Of full nothing is asked.
+unfoldable pub Exact : Acc → Float → Result Sum Refusal → Type 0
+Exact a millijoules (Ok s) = Parts a (a.frac +f millijoules) s.acc s.gained
+Exact a millijoules (Err r) = Unit {0}
 
 -- An add of joules to a lent record a that is answered with this number and leaves b: done, and its parts are those of the rounded sum; or full, and b is a.
 unfoldable pub ExactAfter : Acc → Float → ℕ → Acc → Type 0

@@ -16,6 +16,7 @@ pub struct Figures {
 
 /// The volts at the load: v_m and p_m are measured in front of the resistance r, where i flows. A
 /// square below zero, or a NaN, counts as zero; of an infinite one the root is a NaN.
+#[tactic(auto, unfolding(crate::specs::Load::load_volts))]
 pub fn load_volts(v_m: f32, p_m: f32, i: f32, r: f32) -> f32
     ensures { result ≡ load_volts v_m p_m i r }
 {
@@ -24,6 +25,7 @@ pub fn load_volts(v_m: f32, p_m: f32, i: f32, r: f32) -> f32
 }
 
 // p / s, held to -1 to 1, where a NaN stays; 0 where s is not above zero.
+#[tactic(auto, unfolding(crate::specs::Load::power_factor))]
 fn power_factor(p: f32, s: f32) -> f32
     ensures { result ≡ power_factor p s }
 {
@@ -35,6 +37,7 @@ fn power_factor(p: f32, s: f32) -> f32
 }
 
 // The root of s * s - p * p: zero of a difference below zero and of a NaN, a NaN of infinity.
+#[tactic(auto, unfolding(crate::specs::Load::reactive))]
 fn reactive_power(p: f32, s: f32) -> f32
     ensures { result ≡ reactive p s }
 {
@@ -42,6 +45,7 @@ fn reactive_power(p: f32, s: f32) -> f32
 }
 
 /// The source's `totals`, for every six floats.
+#[tactic(auto, unfolding(crate::specs::Load::totals))]
 pub fn totals(p_ac: f32, v_ac: f32, v_dc: f32, i_ac: f32, i_dc: f32, r: f32) -> Figures
     ensures { result ≡ totals p_ac v_ac v_dc i_ac i_dc r }
 {

@@ -4,6 +4,7 @@ ghost use Rattle.figures.specs.Smoothing.{ema, ema_rel};
 
 /// The smoothed value after x, y before it: x where it is further than win from y, else the part a of
 /// the way from y to x.
+#[tactic(auto, unfolding(crate::specs::Smoothing::ema))]
 pub fn ema(win: f32, a: f32, x: f32, y: f32) -> f32
     ensures { result ≡ ema win a x y }
 {
@@ -15,6 +16,7 @@ pub fn ema(win: f32, a: f32, x: f32, y: f32) -> f32
 }
 
 /// ema with a twentieth of the largest of |x|, |y| and floor as win.
+#[tactic(auto, unfolding(crate::specs::Smoothing::ema_rel))]
 pub fn ema_rel(a: f32, floor: f32, x: f32, y: f32) -> f32
     ensures { result ≡ ema_rel a floor x y }
 {

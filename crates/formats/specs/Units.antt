@@ -1,5 +1,5 @@
 -- Document 01: "unit strings numbered units". The numbers are ours; beside each is the source's string, where micro is "\u{b5}".
-use Rattle.std.specs.Prelude.{Bool, ℕ, eqb}
+use Rattle.std.specs.Prelude.{ℕ}
 use Rattle.formats.specs.declared.units.Unit.{Unit}
 use Rattle.formats.specs.declared.units.Unit.TheVariants.{Volt, Ampere, Milliampere, Microampere, Watt, Milliwatt, Kilowatt, VoltAmpere, MillivoltAmpere, KilovoltAmpere, WattHour, MilliwattHour, KilowattHour, VoltAmpereHour, KilovoltAmpereHour, Millivolt}
 
@@ -20,6 +20,3 @@ unit_number KilowattHour = 12  -- "kWh"
 unit_number VoltAmpereHour = 13  -- "VAh"
 unit_number KilovoltAmpereHour = 14  -- "kVAh"
 unit_number Millivolt = 15  -- "mV"
-
-unfoldable pub same_unit : Unit → Unit → Bool
-same_unit a b = eqb (unit_number a) (unit_number b)

@@ -1,10 +1,10 @@
 //! What is shown of a figure: its number, decimals and unit, or that it is over the range.
 ghost use Rattle.std.specs.Prelude.{◌≡◌};
-ghost use Rattle.formats.specs.Readout.{val_of, over_val, tens, no_neg_zero, shown, shown_unless};
+ghost use Rattle.formats.specs.Readout.{tens, no_neg_zero};
 
-use crate::format::Format;
 use crate::units::Unit;
 
+/// A readout. The mark beside the number stays: C is handed both, and over has the number 0.0.
 #[derive(Clone, Copy)]
 pub struct Val {
     pub number: f32,
@@ -14,7 +14,10 @@ pub struct Val {
 }
 
 impl Val {
+    ghost use Rattle.formats.specs.Readout.{val_of, over_val};
+
     /// A number that is not over.
+    #[tactic(auto, unfolding(crate::specs::Readout::val_of))]
     pub fn new(number: f32, decimals: u8, unit: Unit) -> Val
         ensures { result ≡ val_of number decimals unit }
     {
@@ -27,6 +30,7 @@ impl Val {
     }
 
     /// Over the range: the number is 0.0.
+    #[tactic(auto, unfolding(crate::specs::Readout::over_val))]
     pub fn ol(decimals: u8, unit: Unit) -> Val
         ensures { result ≡ over_val decimals unit }
     {
@@ -40,19 +44,19 @@ impl Val {
 }
 
 /// Ten to the n by n products, which from 39 on is infinite.
+#[tactic(auto, unfolding(crate::specs::Readout::tens))]
 pub fn tens(n: u8) -> f32
     ensures { result ≡ tens n }
 {
-    let mut s: f32 = 1.0;
-    let mut i: u8 = 0;
-    while i < n {
-        s = s * 10.0;
-        i += 1;
+    let mut s = 1.0;
+    for _ in 0..n {
+        s *= 10.0;
     }
     s
 }
 
 /// Plus zero where x times ten to the dec, rounded to binary32, is below 0.5 in size; else x.
+#[tactic(auto, unfolding(crate::specs::Readout::no_neg_zero))]
 pub fn no_neg_zero(x: f32, dec: u8) -> f32
     ensures { result ≡ no_neg_zero x dec }
 {
@@ -60,26 +64,5 @@ pub fn no_neg_zero(x: f32, dec: u8) -> f32
         0.0
     } else {
         x
-    }
-}
-
-/// A figure in its format, as it is shown.
-pub fn shown(f: Format) -> Val
-    ensures { result ≡ shown f }
-{
-    let number = no_neg_zero(f.number, f.decimals);
-    let unit = f.unit;
-    Val::new(number, f.decimals, unit)
-}
-
-/// The same, or over.
-pub fn shown_unless(over: bool, f: Format) -> Val
-    ensures { result ≡ shown_unless over f }
-{
-    let unit = f.unit;
-    if over {
-        Val::ol(f.decimals, unit)
-    } else {
-        shown(f)
     }
 }

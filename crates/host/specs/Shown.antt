@@ -1,10 +1,9 @@
 -- What a screen shows, as a C host is handed it: units and texts by their numbers.
-use Rattle.std.specs.Prelude.{true, false, ℕ}
+use Rattle.std.specs.Prelude.{true, false, ℕ, Option, None, Some}
 use Rattle.numbers.specs.Binary32.{zero_f}
 use Rattle.formats.specs.declared.readout.Val.{Val}
 use Rattle.formats.specs.Units.{unit_number}
-use Rattle.values.specs.declared.vals.Vals.{Vals}
-use Rattle.values.specs.declared.vals.Vals.TheVariants.{NoValues, Measured}
+use Rattle.values.specs.declared.power_vals.PowerVals.{PowerVals}
 use Rattle.values.specs.PowerVals.{zero_vals}
 use Rattle.readouts.specs.declared.readings.Readouts.{Readouts}
 use Rattle.readouts.specs.declared.partial.Partial.{Partial}
@@ -16,9 +15,9 @@ use Rattle.host.specs.declared.shown.HostVal.{HostVal}
 use Rattle.host.specs.declared.shown.HostVals.{HostVals}
 
 -- values, or the source's ZERO where there are none: a mark tells which
-unfoldable pub host_vals : Vals → HostVals
-host_vals (Measured v) = record { measured = true; vals = v }
-host_vals NoValues = record { measured = false; vals = zero_vals }
+unfoldable pub host_vals : Option PowerVals → HostVals
+host_vals (Some v) = record { measured = true; vals = v }
+host_vals None = record { measured = false; vals = zero_vals }
 
 -- the unit by its number
 unfoldable pub host_val : Val → HostVal
@@ -38,7 +37,4 @@ text_only text = record { text = text; with_volts = false; volts = no_val }
 -- the text by its number, and the volts where there are any
 unfoldable pub host_partial : Partial → HostPartial
 host_partial (partial.RangingAt v) = record { text = partial_text (partial.RangingAt v); with_volts = true; volts = host_val v }
-host_partial partial.Nothing = text_only (partial_text partial.Nothing)
-host_partial partial.Zeroing = text_only (partial_text partial.Zeroing)
-host_partial partial.Calibrating = text_only (partial_text partial.Calibrating)
-host_partial partial.Ranging = text_only (partial_text partial.Ranging)
+host_partial p = text_only (partial_text p)

@@ -1,15 +1,18 @@
 -- What a call takes and answers, as a C host hands it over and is handed it: document 01's number for the refusal, and all else of the answer as it is.
-use Rattle.std.specs.Prelude.{true, false, cond, ℕ, ltb, eqb, pos}
+use Rattle.std.specs.Prelude.{false, cond, ℕ, ltb, eqb, pos, Option, Some, None, is_some, Result, Ok, Err}
 use Rattle.numbers.specs.Binary32.{zero_f}
+use Rattle.refusals.specs.declared.Refusal.{Refusal}
 use Rattle.refusals.specs.Number.{refusal_number}
+use Rattle.state.specs.declared.Pw.{Pw}
+use Rattle.state.specs.Fresh.{no_time}
 use Rattle.values.specs.declared.power_vals.PowerVals.{PowerVals}
+use Rattle.orders.specs.declared.answer.Answer.{Answer}
 use Rattle.orders.specs.declared.answer.Reading.{Reading}
-use Rattle.orders.specs.declared.answer.Reading.TheVariants.{NoReading, Read}
 use Rattle.orders.specs.declared.answer.Step.{Step}
 use Rattle.orders.specs.declared.ranges.Ask.{Ask}
 use Rattle.orders.specs.declared.ranges.Ask.TheVariants.{Stay, Auto, Fixed}
-use Rattle.meter.specs.declared.making.Made.{Made}
-use Rattle.host.specs.declared.stepped.HostRead.{HostRead}
+use Rattle.meter.specs.Making.{plain_meter}
+use Rattle.host.specs.declared.stepped.HostAnswer.{HostAnswer}
 use Rattle.host.specs.declared.stepped.HostReading.{HostReading}
 use Rattle.host.specs.declared.stepped.HostMade.{HostMade}
 use Rattle.host.specs.declared.stepped.HostStep.{HostStep}
@@ -39,23 +42,19 @@ no_vals =
 abbrev pub no_reading : HostReading
 no_reading = record { readouts = record { main = no_val; v = no_val; i = no_val; si = zero_f }; vals = no_vals }
 
-unfoldable pub host_read : Reading → HostRead
-host_read (Read readouts v) = record { has_reading = true; reading = record { readouts = host_readouts readouts; vals = v } }
-host_read NoReading = record { has_reading = false; reading = no_reading }
+unfoldable pub host_reading : Option Reading → HostReading
+host_reading (Some r) = record { readouts = host_readouts r.readouts; vals = r.vals }
+host_reading None = no_reading
 
-unfoldable pub host_step : Step → HostStep
-host_step s =
-    let read = host_read s.answer.reading in
-    record {
-      meter = s.pw;
-      answer = record {
-        refusal = refusal_number s.answer.refusal;
-        mark = s.answer.mark;
-        used = s.answer.used;
-        has_reading = read.has_reading;
-        reading = read.reading;
-      };
-    }
+-- "A refused call returns its number alone: no reading, no mark to the host, a count of 0"
+unfoldable pub host_answer : Result Answer Refusal → HostAnswer
+host_answer (Ok a) = record { refusal = 0; mark = a.mark; used = a.used; has_reading = is_some a.reading; reading = host_reading a.reading }
+host_answer (Err n) = record { refusal = refusal_number n; mark = no_time; used = 0; has_reading = false; reading = no_reading }
 
-unfoldable pub host_made : Made → HostMade
-host_made m = record { refusal = refusal_number m.refusal; meter = m.pw }
+abbrev pub host_step : Step → HostStep
+host_step s = record { meter = s.pw; answer = host_answer s.answer }
+
+-- "no meter made": what stands in its place is a plain one, off
+unfoldable pub host_made : Result Pw Refusal → HostMade
+host_made (Ok m) = record { refusal = 0; meter = m }
+host_made (Err n) = record { refusal = refusal_number n; meter = plain_meter }

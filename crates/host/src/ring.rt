@@ -16,12 +16,8 @@ pub struct HostConversion {
     pub dt: u16,
 }
 
-/// The conversion of this age, the latest being of age 0. None is found of an age of 16 or more, and of one
-/// of `ring_k` or more.
-pub fn conversion(ring: Ring, age: u8) -> HostConversion
-    ensures { result ≡ conversion ring age }
-{
-    let none = HostConversion {
+impl HostConversion {
+    const NONE: HostConversion = HostConversion {
         found: false,
         stat: 0,
         disc: false,
@@ -29,24 +25,26 @@ pub fn conversion(ring: Ring, age: u8) -> HostConversion
         lpf: 0,
         dt: 0,
     };
-    if age >= 16 {
-        return none;
-    }
-    if (age as u32) >= ring.ring_k {
-        return none;
-    }
-    let k = ((ring.ring_k - 1 - (age as u32)) % 16) as usize;
-    let stat = ring.stat;
-    let disc = ring.disc;
-    let rms = ring.rms;
-    let lpf = ring.lpf;
-    let dt = ring.dt;
-    HostConversion {
-        found: true,
-        stat: stat[k],
-        disc: disc[k],
-        rms: rms[k],
-        lpf: lpf[k],
-        dt: dt[k],
+}
+
+/// The conversion of this age, the latest being of age 0. None is found of an age of 16 or more, and of one
+/// of `ring_k` or more.
+#[tactic(auto, unfolding(crate::specs::Ring::conversion))]
+pub fn conversion(ring: Ring, age: u8) -> HostConversion
+    ensures { result ≡ conversion ring age }
+{
+    match ring.ring_k.checked_sub(u32::from(age) + 1) {
+        Some(number) if age < 16 => {
+            let k = (number % 16) as usize;
+            HostConversion {
+                found: true,
+                stat: ring.stat[k],
+                disc: ring.disc[k],
+                rms: ring.rms[k],
+                lpf: ring.lpf[k],
+                dt: ring.dt[k],
+            }
+        }
+        _ => HostConversion::NONE,
     }
 }

@@ -1,12 +1,10 @@
 //! What a screen shows.
 ghost use Rattle.std.specs.Prelude.{◌≡◌};
-ghost use Rattle.host.specs.Shown.{host_vals, host_val, host_readouts, text_only, host_partial};
 
 use formats::readout::Val;
 use readouts::partial::Partial;
 use readouts::readings::Readouts;
 use values::power_vals::PowerVals;
-use values::vals::Vals;
 
 /// `struct pw_vals`
 #[derive(Clone, Copy)]
@@ -53,82 +51,81 @@ pub struct HostPartial {
     pub volts: HostVal,
 }
 
-/// The values; `PowerVals::zero` where there are none.
-pub fn host_vals(answer: Vals) -> HostVals
-    ensures { result ≡ host_vals answer }
-{
-    match answer {
-        Vals::Measured(v) => HostVals {
-            measured: true,
-            vals: v,
-        },
-        Vals::NoValues => {
-            let none = PowerVals::zero();
-            HostVals {
+/// The values; `PowerVals::ZERO` where there are none.
+impl From<Option<PowerVals>> for HostVals {
+    ghost use Rattle.host.specs.Shown.{host_vals};
+
+    ghost from_gives = { λ answer shown. shown ≡ host_vals answer };
+
+    #[tactic(auto, unfolding(crate::specs::Shown::host_vals))]
+    fn from(answer: Option<PowerVals>) -> HostVals {
+        match answer {
+            Some(vals) => HostVals {
+                measured: true,
+                vals,
+            },
+            None => HostVals {
                 measured: false,
-                vals: none,
-            }
+                vals: PowerVals::default(),
+            },
         }
     }
 }
 
 /// One readout, its unit by the number.
-pub fn host_val(v: Val) -> HostVal
-    ensures { result ≡ host_val v }
-{
-    let unit = v.unit;
-    let number = formats::units::unit_number(unit);
-    HostVal {
-        number: v.number,
-        decimals: v.decimals,
-        unit: number,
-        over: v.over,
+impl From<Val> for HostVal {
+    ghost use Rattle.host.specs.Shown.{host_val};
+
+    ghost from_gives = { λ val shown. shown ≡ host_val val };
+
+    #[tactic(auto, unfolding(crate::specs::Shown::host_val))]
+    fn from(val: Val) -> HostVal {
+        HostVal {
+            number: val.number,
+            decimals: val.decimals,
+            unit: u8::from(val.unit),
+            over: val.over,
+        }
     }
 }
 
 /// The readouts of a reading, each unit by its number.
-pub fn host_readouts(readouts: Readouts) -> HostReadouts
-    ensures { result ≡ host_readouts readouts }
-{
-    let main = host_val(readouts.main);
-    let v = host_val(readouts.v);
-    let i = host_val(readouts.i);
-    HostReadouts {
-        main,
-        v,
-        i,
-        si: readouts.si,
-    }
-}
+impl From<Readouts> for HostReadouts {
+    ghost use Rattle.host.specs.Shown.{host_readouts};
 
-// The text of a partial answer, with no volts.
-fn text_only(text: u8) -> HostPartial
-    ensures { result ≡ text_only text }
-{
-    HostPartial {
-        text,
-        with_volts: false,
-        volts: NO_VAL,
+    ghost from_gives = { λ readouts shown. shown ≡ host_readouts readouts };
+
+    #[tactic(auto, unfolding(crate::specs::Shown::host_readouts))]
+    fn from(readouts: Readouts) -> HostReadouts {
+        HostReadouts {
+            main: HostVal::from(readouts.main),
+            v: HostVal::from(readouts.v),
+            i: HostVal::from(readouts.i),
+            si: readouts.si,
+        }
     }
 }
 
 /// What is shown in place of a reading: the text by its number, and the volts where there are any.
-pub fn host_partial(partial: Partial) -> HostPartial
-    ensures { result ≡ host_partial partial }
-{
-    let text = readouts::partial::partial_text(partial);
-    match partial {
-        Partial::RangingAt(v) => {
-            let volts = host_val(v);
-            HostPartial {
+impl From<Partial> for HostPartial {
+    ghost use Rattle.host.specs.Shown.{host_partial};
+
+    ghost from_gives = { λ partial shown. shown ≡ host_partial partial };
+
+    #[tactic(auto, unfolding(crate::specs::Shown::host_partial, crate::specs::Shown::text_only))]
+    fn from(partial: Partial) -> HostPartial {
+        let text = u8::from(partial);
+        match partial {
+            Partial::RangingAt(volts) => HostPartial {
                 text,
                 with_volts: true,
-                volts,
-            }
+                volts: HostVal::from(volts),
+            },
+            _ => HostPartial {
+                text,
+                with_volts: false,
+                volts: NO_VAL,
+            },
         }
-        Partial::Nothing => text_only(text),
-        Partial::Zeroing => text_only(text),
-        Partial::Calibrating => text_only(text),
-        Partial::Ranging => text_only(text),
     }
 }

@@ -2,12 +2,12 @@
 ghost use Rattle.std.specs.Prelude.{◌≡◌};
 ghost use Rattle.orders.specs.Answer.{refused_with};
 ghost use Rattle.meter.specs.Frame.{frame_done};
-ghost use Rattle.host.specs.Stepped.{ask_of, host_read, host_step, host_made};
+ghost use Rattle.host.specs.Stepped.{ask_of, host_reading, host_answer, host_step, host_made};
 
-use crate::shown::{HostReadouts, NO_VAL, host_readouts};
+use crate::shown::{HostReadouts, NO_VAL};
 use figures::load::Figures;
-use meter::making::Made;
-use orders::answer::{Reading, Step};
+use meter::making::plain_meter;
+use orders::answer::{Answer, Reading, Step};
 use orders::ranges::Ask;
 use refusals::{Refusal, number};
 use state::{Pw, Ranges, Stamp};
@@ -19,13 +19,6 @@ use values::power_vals::{Energies, InForce, Limits, PowerVals, Split};
 pub struct HostReading {
     pub readouts: HostReadouts,
     pub vals: PowerVals,
-}
-
-/// A reading, and whether there is one; where there is none every number is 0 and every mark no.
-#[derive(Clone, Copy)]
-pub struct HostRead {
-    pub has_reading: bool,
-    pub reading: HostReading,
 }
 
 /// `struct pw_answer`: the refusal by its number.
@@ -116,6 +109,7 @@ const NO_READING: HostReading = HostReading {
 
 /// What a number asks of a range: below 256 that range, 256 (PW_AUTO) that it be found by itself, any
 /// other nothing (PW_KEEP is 257).
+#[tactic(auto, unfolding(crate::specs::Stepped::ask_of))]
 pub fn ask_of(asked: u16) -> Ask
     ensures { result ≡ ask_of asked }
 {
@@ -128,33 +122,35 @@ pub fn ask_of(asked: u16) -> Ask
     Ask::Stay
 }
 
-fn host_read(reading: Reading) -> HostRead
-    ensures { result ≡ host_read reading }
+// Where there is no reading every number is 0 and every mark no.
+#[tactic(auto, unfolding(crate::specs::Stepped::host_reading))]
+fn host_reading(reading: Option<Reading>) -> HostReading
+    ensures { result ≡ host_reading reading }
 {
     match reading {
-        Reading::Read(readouts, vals) => {
-            let readouts = host_readouts(readouts);
-            HostRead {
-                has_reading: true,
-                reading: HostReading { readouts, vals },
-            }
-        }
-        Reading::NoReading => HostRead {
-            has_reading: false,
-            reading: NO_READING,
+        Some(read) => HostReading {
+            readouts: HostReadouts::from(read.readouts),
+            vals: read.vals,
         },
+        None => NO_READING,
     }
 }
 
-/// A refused call: its number alone.
-pub fn host_refused(told: Refusal, meter: Pw) -> HostStep
-    ensures { result ≡ host_step (refused_with told meter) }
+// A refused call's answer is its number alone.
+#[tactic(auto, unfolding(crate::specs::Stepped::host_answer))]
+fn host_answer(answer: Result<Answer, Refusal>) -> HostAnswer
+    ensures { result ≡ host_answer answer }
 {
-    let refusal = number(told);
-    HostStep {
-        meter,
-        answer: HostAnswer {
-            refusal,
+    match answer {
+        Ok(answer) => HostAnswer {
+            refusal: 0,
+            mark: answer.mark,
+            used: answer.used,
+            has_reading: answer.reading.is_some(),
+            reading: host_reading(answer.reading),
+        },
+        Err(refusal) => HostAnswer {
+            refusal: number(refusal),
             mark: Stamp::NONE,
             used: 0,
             has_reading: false,
@@ -163,21 +159,24 @@ pub fn host_refused(told: Refusal, meter: Pw) -> HostStep
     }
 }
 
-/// A frame that is done.
-pub fn host_done(meter: Pw, mark: Stamp, used: u8, shown: Reading) -> HostStep
-    ensures { result ≡ host_step (frame_done meter mark used shown) }
+/// A refused call.
+#[tactic(auto, unfolding(orders::specs::Answer::refused_with))]
+pub fn host_refused(refusal: Refusal, meter: Pw) -> HostStep
+    ensures { result ≡ host_step (refused_with refusal meter) }
 {
-    let read = host_read(shown);
-    let reading = read.reading;
     HostStep {
         meter,
-        answer: HostAnswer {
-            refusal: 0,
-            mark,
-            used,
-            has_reading: read.has_reading,
-            reading,
-        },
+        answer: host_answer(Err(refusal)),
+    }
+}
+
+/// A frame that is done.
+pub fn host_done(meter: Pw, answer: Answer) -> HostStep
+    ensures { result ≡ host_step (frame_done meter answer.mark answer.used answer.reading) }
+{
+    HostStep {
+        meter,
+        answer: host_answer(Ok(answer)),
     }
 }
 
@@ -185,32 +184,23 @@ pub fn host_done(meter: Pw, mark: Stamp, used: u8, shown: Reading) -> HostStep
 pub fn host_step(step: Step) -> HostStep
     ensures { result ≡ host_step step }
 {
-    let meter = step.pw;
-    let answer = step.answer;
-    let mark = answer.mark;
-    let told = answer.refusal;
-    let shown = answer.reading;
-    let refusal = number(told);
-    let read = host_read(shown);
-    let reading = read.reading;
     HostStep {
-        meter,
-        answer: HostAnswer {
-            refusal,
-            mark,
-            used: answer.used,
-            has_reading: read.has_reading,
-            reading,
-        },
+        meter: step.pw,
+        answer: host_answer(step.answer),
     }
 }
 
-/// What the making of a meter answers, with the refusal by its number.
-pub fn host_made(made: Made) -> HostMade
+/// What the making of a meter answers, with the refusal by its number; where none is made a plain one that is off
+/// stands in its place.
+#[tactic(auto, unfolding(crate::specs::Stepped::host_made))]
+pub fn host_made(made: Result<Pw, Refusal>) -> HostMade
     ensures { result ≡ host_made made }
 {
-    let told = made.refusal;
-    let refusal = number(told);
-    let meter = made.pw;
-    HostMade { refusal, meter }
+    match made {
+        Ok(meter) => HostMade { refusal: 0, meter },
+        Err(refusal) => HostMade {
+            refusal: number(refusal),
+            meter: plain_meter(),
+        },
+    }
 }

@@ -8,20 +8,19 @@ use borrow.Author.Tests.{ltb-true, ltb-false, eqb-true, lt-ltb}
 use lib.Dec.{ltb, eqb}
 use lib.IntN.{ℤ}
 use lib.Ieee.{Float}
+use Rattle.std.specs.Prelude.{Result, Ok, Err}
 use Rattle.numbers.proofs.Cases.{either_by}
 use Rattle.codes.specs.declared.Codes.{Codes}
-use Rattle.tables.specs.Constants.{job_n, jr_ok, jr_signal, jr_small, jr_big, jr_unstable, jr_range}
+use Rattle.tables.specs.Constants.{job_n, jr_ok, jr_signal}
 use Rattle.tables.specs.declared.calibration.Calibration.{Calibration}
 use Rattle.state.specs.declared.Job.{Job}
 use Rattle.state.specs.Counting.{count_up}
+use Rattle.steps.specs.declared.error.JobError.{JobError}
 use Rattle.steps.specs.declared.place.Kind.{Kind}
 use Rattle.steps.specs.declared.place.Kind.TheVariants.{Zero, Gain}
 use Rattle.steps.specs.declared.place.Place.{Place}
 use Rattle.steps.specs.declared.place.Place.TheVariants.{ZeroX, ZeroD, ZeroY, Raw, RefDc, RefAc}
-use Rattle.steps.specs.declared.verdict.RawVerdict.{RawVerdict}
-use Rattle.steps.specs.declared.verdict.RawVerdict.TheVariants.{Small, Big, Fair}
-use Rattle.steps.specs.declared.verdict.GainVerdict.{GainVerdict}
-use Rattle.steps.specs.declared.verdict.GainVerdict.TheVariants.{Unstable, Outside, Good}
+use Rattle.steps.specs.Error.{error_number}
 use Rattle.steps.specs.declared.reading.Reading.{Reading}
 use Rattle.steps.specs.Place.{Layout, zero_steps, dc_steps, ac_steps, kind_of, layout_of, place_of, drops_of, ready}
 use Rattle.steps.specs.Verdict.{mean_of, zero_mean, is_dc, raw_verdict}
@@ -153,15 +152,13 @@ module _ (now : ℕ) where
   raw_before_last : (s : ℕ) → s ≤ 3 → s % 2 ≡ 0 → s < 3
   raw_before_last s h e = omega arith
 
-  raw_kept : (v : RawVerdict) (b : Bench) → Done Gain b → b.job.job_step < last_of (layout_in b.job) → Kept 22 (by_raw now v b)
-  raw_kept Small b d h = ended_kept now 22 b jr_small (done_most Gain b d)
-  raw_kept Big b d h = ended_kept now 22 b jr_big (done_most Gain b d)
-  raw_kept Fair b d h = next_kept now 22 b d.1 h
+  raw_kept : (v : Result (Unit {0}) JobError) (b : Bench) → Done Gain b → b.job.job_step < last_of (layout_in b.job) → Kept 22 (by_raw now v b)
+  raw_kept (Ok x) b d h = next_kept now 22 b d.1 h
+  raw_kept (Err e) b d h = ended_kept now 22 b (error_number e) (done_most Gain b d)
 
-  gain_kept : (v : GainVerdict) (b : Bench) → Done Gain b → Kept 22 (by_gain v b)
-  gain_kept Unstable b d = ended_kept now 22 b jr_unstable (done_most Gain b d)
-  gain_kept Outside b d = ended_kept now 22 b jr_range (done_most Gain b d)
-  gain_kept (Good g) b d = ended_kept now 22 (gain_stored g b) jr_ok (done_most Gain b d)
+  gain_kept : (v : Result Float JobError) (b : Bench) → Done Gain b → Kept 22 (by_gain v b)
+  gain_kept (Ok g) b d = ended_kept now 22 (gain_stored g b) jr_ok (done_most Gain b d)
+  gain_kept (Err e) b d = ended_kept now 22 b (error_number e) (done_most Gain b d)
 
   -- step 0 takes as many frames whatever kind it finds; both kinds have as many steps
   same_first : (d e : Bool) → frames_to (layout_of Gain d) 1 ≡ frames_to (layout_of Gain e) 1

@@ -10,25 +10,24 @@ use lib.Dec.{ltb, eqb}
 use lib.IntN.{ℤ}
 use lib.ListN.{length}
 use lib.Ieee.{Float}
+use Rattle.std.specs.Prelude.{Result, Ok, Err}
 use Rattle.numbers.specs.Binary32.{◌+f◌, zero_f}
 use Rattle.numbers.proofs.Cases.{either, by_test}
 use Rattle.codes.specs.declared.Codes.{Codes}
-use Rattle.tables.specs.Constants.{job_n, jr_ok, jr_signal, jr_small, jr_big, jr_unstable, jr_range}
+use Rattle.tables.specs.Constants.{job_n, jr_ok, jr_signal}
 use Rattle.tables.specs.declared.calibration.Calibration.{Calibration}
 use Rattle.state.specs.declared.Pw.{Pw}
 use Rattle.state.specs.Fresh.{no_time}
 use Rattle.state.specs.Counting.{count_up}
 use Rattle.state.proofs.Marks.{MarkAt, Settle, of_apply, of_ac, of_dc}
 use Rattle.phase.specs.Phase.{cal_off}
+use Rattle.steps.specs.declared.error.JobError.{JobError}
 use Rattle.steps.specs.declared.place.Kind.{Kind}
 use Rattle.steps.specs.declared.place.Kind.TheVariants.{Zero, Gain}
 use Rattle.steps.specs.declared.place.Place.{Place}
 use Rattle.steps.specs.declared.place.Place.TheVariants.{ZeroX, ZeroD, ZeroY, Raw, RefDc, RefAc}
 use Rattle.steps.specs.declared.reading.Reading.{Reading}
-use Rattle.steps.specs.declared.verdict.RawVerdict.{RawVerdict}
-use Rattle.steps.specs.declared.verdict.RawVerdict.TheVariants.{Small, Big, Fair}
-use Rattle.steps.specs.declared.verdict.GainVerdict.{GainVerdict}
-use Rattle.steps.specs.declared.verdict.GainVerdict.TheVariants.{Unstable, Outside, Good}
+use Rattle.steps.specs.Error.{error_number}
 use Rattle.steps.specs.Place.{drops_of, ready, settle_of}
 use Rattle.steps.specs.Reading.{zeros_in, old_of, reading_of, signal}
 use Rattle.steps.specs.Verdict.{zero_mean, is_dc, raw_verdict, mean_of}
@@ -69,26 +68,7 @@ start_keeps_sph m k now = refl
 -- ---- a frame that is not ready "changes only `t_poll`", and the count is that of the frames before it
 
 abbrev pub polled_at : ℕ → Pw → Pw
-polled_at now m =
-    record {
-      description = m.description;
-      calibration = m.calibration;
-      mode = m.mode;
-      ranges = m.ranges;
-      barred = m.barred;
-      cycle = m.cycle;
-      parts = m.parts;
-      powers = m.powers;
-      tally = m.tally;
-      clock = record { run = m.clock.run; t_last = m.clock.t_last; t_poll = now };
-      over_t0 = m.over_t0;
-      settings = m.settings;
-      phase_cal = m.phase_cal;
-      corrections = m.corrections;
-      job = m.job;
-      comparator = m.comparator;
-      ring = m.ring;
-    }
+polled_at now m = record m { clock = record m.clock { t_poll = now } }
 
 pub not_ready : (m : Pw) (now flags : ℕ) (f : Codes) → ready (place_in m.job) flags ≡ false
     → job_polled m now flags f ≡ record { pw = polled_at now m; mark = no_time; used = m.job.used }
@@ -127,15 +107,13 @@ stored_goes : (t b : Bench) → Noted t b → b.mode ≡ t.mode → Goes t (ende
 unfolding ended
 stored_goes t b n m = inr (refl, n.0, n, rw (m), inr refl)
 
-raw_goes : (t b : Bench) (now : ℕ) (v : RawVerdict) → GoesOn t b → Goes t (by_raw now v b)
-raw_goes t b now Small g = ended_goes t b jr_small g
-raw_goes t b now Big g = ended_goes t b jr_big g
-raw_goes t b now Fair g = next_goes t b now g
+raw_goes : (t b : Bench) (now : ℕ) (v : Result (Unit {0}) JobError) → GoesOn t b → Goes t (by_raw now v b)
+raw_goes t b now (Ok x) g = next_goes t b now g
+raw_goes t b now (Err e) g = ended_goes t b (error_number e) g
 
-gain_goes : (t b : Bench) (v : GainVerdict) → GoesOn t b → Goes t (by_gain v b)
-gain_goes t b Unstable g = ended_goes t b jr_unstable g
-gain_goes t b Outside g = ended_goes t b jr_range g
-gain_goes t b (Good x) (j, r, n, c, m) = stored_goes t (gain_stored x b) n m
+gain_goes : (t b : Bench) (v : Result Float JobError) → GoesOn t b → Goes t (by_gain v b)
+gain_goes t b (Ok x) (j, r, n, c, m) = stored_goes t (gain_stored x b) n m
+gain_goes t b (Err e) g = ended_goes t b (error_number e) g
 
 module _ (t : Bench) (now : ℕ) where
   zero_done_goes : (z : ℤ) (b : Bench) → GoesOn t b → Goes t (zero_done now z b)
@@ -331,15 +309,13 @@ module _ (now : ℕ) where
   unfolding next step_at
   next_mark b = let p = place_in (at_step (count_up b.job.job_step) b.job) in inr (settle_of p, settle_of_law p, refl)
 
-  raw_mark : (v : RawVerdict) (b : Bench) → Marks (by_raw now v b)
-  raw_mark Small b = inl refl
-  raw_mark Big b = inl refl
-  raw_mark Fair b = next_mark b
+  raw_mark : (v : Result (Unit {0}) JobError) (b : Bench) → Marks (by_raw now v b)
+  raw_mark (Ok x) b = next_mark b
+  raw_mark (Err e) b = inl refl
 
-  gain_mark : (v : GainVerdict) (b : Bench) → Marks (by_gain v b)
-  gain_mark Unstable b = inl refl
-  gain_mark Outside b = inl refl
-  gain_mark (Good x) b = inl refl
+  gain_mark : (v : Result Float JobError) (b : Bench) → Marks (by_gain v b)
+  gain_mark (Ok x) b = inl refl
+  gain_mark (Err e) b = inl refl
 
   step_mark : (k : Kind) (x y : Float) (b : Bench) → Marks (step_done now k x y b)
   unfolding zero_done gain_done raw_done ref_done judged

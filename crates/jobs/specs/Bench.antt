@@ -28,11 +28,9 @@ unmarked b = record { bench = b; mark = no_time }
 -- `pw_job_end` of a running job: `job = 0; job_res = res; (vr, ik, v_auto, i_auto) = job_save; cal_req = on`. No zero, no gain, and not `zero_ok`, changes
 unfoldable pub ended : ℕ → Bench → Bench
 ended res b =
-    record {
+    record b {
       mode = with_cal_req b.mode b.mode.on;
       ranges = b.job.job_save;
-      cycle = b.cycle;
-      corrections = b.corrections;
       job = with_end b.job res;
     }
 
@@ -51,11 +49,9 @@ unfoldable pub step_at : ℕ → ℕ → Bench → Served
 step_at now s b =
     let j = at_step s b.job in
     record {
-      bench = record {
-        mode = b.mode;
+      bench = record b {
         ranges = step_ranges (kind_in j) s b.ranges;
         cycle = with_row b.cycle (drops_of (place_in j)) (stat_of (place_in j));
-        corrections = b.corrections;
         job = j;
       };
       mark = record { set = true; at = deadline now (settle_of (place_in j)) };
@@ -70,15 +66,8 @@ next now b = step_at now (count_up b.job.job_step) b
 -- "An accepted job start notes the job, and the ranges and automatic marks found": `pw_job_start`, whose `job_step = 0` is `step_at`'s and whose `cal = 0` is `job_started`'s. `job_dc`, `job_raw` and `job_ref` stay as an earlier job left them; no ready frame is used yet
 abbrev pub noted : Kind → Bench → Job
 noted k b =
-    record {
+    record b.job {
       job = kind_number k;
-      job_step = b.job.job_step;
-      job_n = b.job.job_n;
-      job_a = b.job.job_a;
-      job_b = b.job.job_b;
-      job_dc = b.job.job_dc;
-      job_raw = b.job.job_raw;
-      job_ref = b.job.job_ref;
       job_zx = b.corrections.zx;
       job_zd = b.corrections.zd;
       job_save = b.ranges;

@@ -1,11 +1,13 @@
 -- A frame in a job: the first half of `pw_job_poll`.
-use Rattle.std.specs.Prelude.{Bool, cond, ℕ, ◌-◌, ltb}
+use Rattle.std.specs.Prelude.{Bool, cond, ℕ, ◌-◌, ltb, Result, Ok, Err}
 use Rattle.numbers.specs.Binary32.{◌+f◌}
 use Rattle.codes.specs.declared.Codes.{Codes}
 use Rattle.tables.specs.Constants.{job_n, jr_signal}
 use Rattle.tables.specs.declared.calibration.Calibration.{Calibration}
 use Rattle.state.specs.Counting.{count_up}
+use Rattle.steps.specs.declared.error.JobError.{JobError}
 use Rattle.steps.specs.declared.reading.Reading.{Reading}
+use Rattle.steps.specs.Error.{error_number}
 use Rattle.steps.specs.Place.{ready}
 use Rattle.steps.specs.Reading.{zeros_in, old_of, reading_of, signal}
 use Rattle.steps.specs.Verdict.{mean_of}
@@ -24,6 +26,11 @@ unfoldable pub counted : ℕ → Reading → Bench → Served
 counted now r t =
     let s = summed r t in
     cond (ltb s.job.job_n job_n) (unmarked s) (step_done now (kind_in s.job) (mean_of s.job.job_a) (mean_of s.job.job_b) s)
+
+-- a reading that is one counts, another ends the job with its result
+abbrev pub by_reading : ℕ → Result Reading JobError → Bench → Served
+by_reading now (Ok r) t = counted now r t
+by_reading now (Err e) t = ended_unmarked (error_number e) t
 
 -- one of the frames that a step drops: neither tested nor counted
 abbrev pub dropped : Bench → Bench

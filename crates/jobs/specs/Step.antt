@@ -1,14 +1,12 @@
 -- What a step's two means do to the job: the second half of `pw_job_poll`, once `job_n < JOB_N` holds no longer.
-use Rattle.std.specs.Prelude.{Bool, true, cond, ℕ, ◌-◌, ◌/◌, ◌%◌, ltb, eqb, ℤ, get_or, set, Float}
+use Rattle.std.specs.Prelude.{Bool, true, cond, ℕ, ◌-◌, ◌/◌, ◌%◌, ltb, eqb, ℤ, get_or, set, Float, Result, Ok, Err}
 use Rattle.std.specs.Float.{nan}
 use Rattle.tables.specs.Bounds.{at_most}
-use Rattle.tables.specs.Constants.{jr_ok, jr_small, jr_big, jr_unstable, jr_range}
+use Rattle.tables.specs.Constants.{jr_ok}
+use Rattle.steps.specs.declared.error.JobError.{JobError}
 use Rattle.steps.specs.declared.place.Kind.{Kind}
 use Rattle.steps.specs.declared.place.Kind.TheVariants.{Zero, Gain}
-use Rattle.steps.specs.declared.verdict.RawVerdict.{RawVerdict}
-use Rattle.steps.specs.declared.verdict.RawVerdict.TheVariants.{Small, Big, Fair}
-use Rattle.steps.specs.declared.verdict.GainVerdict.{GainVerdict}
-use Rattle.steps.specs.declared.verdict.GainVerdict.TheVariants.{Unstable, Outside, Good}
+use Rattle.steps.specs.Error.{error_number}
 use Rattle.steps.specs.Verdict.{zero_mean, is_dc, part, raw_verdict, gain_verdict}
 use Rattle.jobs.specs.declared.bench.Bench.{Bench}
 use Rattle.jobs.specs.declared.bench.Served.{Served}
@@ -43,10 +41,9 @@ zero_done now z t =
 abbrev pub round_of : Bench → ℕ
 round_of t = at_most 1 (t.job.job_step / 2)
 
-abbrev pub by_raw : ℕ → RawVerdict → Bench → Served
-by_raw now Small t = ended_unmarked jr_small t
-by_raw now Big t = ended_unmarked jr_big t
-by_raw now Fair t = next now t
+abbrev pub by_raw : ℕ → Result (Unit {0}) JobError → Bench → Served
+by_raw now (Ok x) t = next now t
+by_raw now (Err e) t = ended_unmarked (error_number e) t
 
 -- the kind, and the part that counts as `job_raw` of the round
 abbrev pub raw_noted : Bool → Float → Float → Bench → Bench
@@ -60,16 +57,15 @@ raw_done now dc a b t = by_raw now (raw_verdict dc t.ranges.vr a b) (raw_noted d
 abbrev pub gain_stored : Float → Bench → Bench
 gain_stored g t = with_corrections t (with_vgain t.corrections (set t.corrections.vgain (at_most 3 t.ranges.vr) g))
 
-abbrev pub by_gain : GainVerdict → Bench → Served
-by_gain Unstable t = ended_unmarked jr_unstable t
-by_gain Outside t = ended_unmarked jr_range t
-by_gain (Good g) t = ended_unmarked jr_ok (gain_stored g t)
+abbrev pub by_gain : Result Float JobError → Bench → Served
+by_gain (Ok g) t = ended_unmarked jr_ok (gain_stored g t)
+by_gain (Err e) t = ended_unmarked (error_number e) t
 
 abbrev pub ref_noted : Float → Bench → Bench
 ref_noted a t = with_job t (with_ref t.job (set t.job.job_ref (round_of t) a))
 
 -- the verdict on both rounds
-abbrev pub verdict_in : Bench → GainVerdict
+abbrev pub verdict_in : Bench → Result Float JobError
 verdict_in t = gain_verdict (get_or t.job.job_raw 0 nan) (get_or t.job.job_ref 0 nan) (get_or t.job.job_raw 1 nan) (get_or t.job.job_ref 1 nan)
 
 unfoldable pub judged : Bench → Served

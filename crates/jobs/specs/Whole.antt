@@ -19,24 +19,14 @@ bench_in m = record { mode = m.mode; ranges = m.ranges; cycle = m.cycle; correct
 -- the meter with that changed, with this phase calibration, and at this time of the last frame. All else stays: description and words, `barred`, parts, powers, tally, the clock's last time and run, `over_t0`, settings, comparator and ring
 abbrev pub put_together : Pw → Bench → PhaseCal → ℕ → Pw
 put_together m b phase poll =
-    record {
-      description = m.description;
-      calibration = m.calibration;
+    record m {
       mode = b.mode;
       ranges = b.ranges;
-      barred = m.barred;
       cycle = b.cycle;
-      parts = m.parts;
-      powers = m.powers;
-      tally = m.tally;
-      clock = record { run = m.clock.run; t_last = m.clock.t_last; t_poll = poll };
-      over_t0 = m.over_t0;
-      settings = m.settings;
+      clock = record m.clock { t_poll = poll };
       phase_cal = phase;
       corrections = b.corrections;
       job = b.job;
-      comparator = m.comparator;
-      ring = m.ring;
     }
 
 unfoldable pub with_bench : Pw → Bench → Pw

@@ -1,11 +1,11 @@
 //! A job's beginning, the beginning of each of its steps, and its end.
 ghost use Rattle.std.specs.Prelude.{◌≡◌};
-ghost use Rattle.jobs.specs.Bench.{kind_in, place_in, ended, ended_if_any, step_at, next, begun, turned_away};
+ghost use Rattle.steps.specs.Error.{result_number};
+ghost use Rattle.jobs.specs.Bench.{kind_in, place_in, unmarked, ended, ended_if_any, step_at, next, begun, turned_away};
 
 use state::{Corrections, Cycle, Job, Mode, Ranges, Stamp, count_up, deadline};
-use steps::place::{
-    Kind, Place, drops_of, kind_number, kind_of, place_of, settle_of, stat_of, step_ranges,
-};
+use steps::error::{JobError, result_number};
+use steps::place::{Kind, Place};
 use tables::constants::{JR_METHOD, JR_RUN};
 
 /// The part of a meter that a job works on: all that a job may change, but `cal` (by its start) and
@@ -28,114 +28,138 @@ pub struct Served {
     pub mark: Stamp,
 }
 
-/// The running job's kind.
-pub(crate) fn kind_in(job: Job) -> Kind
-    ensures { result ≡ kind_in job }
-{
-    kind_of(job.job)
-}
-
-/// What the running job's step measures.
-pub(crate) fn place_in(job: Job) -> Place
-    ensures { result ≡ place_in job }
-{
-    place_of(kind_in(job), job.job_dc, job.job_step)
-}
-
-/// The running job ends: the ranges and automatic marks found at its start come back, and the host is
-/// to re-apply if the meter is on. What is stored of zeros and gains stays.
-pub(crate) fn end_with(res: u8, before: Bench) -> Bench
-    ensures { result ≡ ended res before }
-{
-    let mut job = before.job;
-    let ranges = job.job_save;
-    let mut mode = before.mode;
-    mode.cal_req = mode.on;
-    job.job = 0;
-    job.job_res = res;
-    let mut after = before;
-    after.mode = mode;
-    after.ranges = ranges;
-    after.job = job;
-    after
-}
-
-/// The same where a job runs; else nothing changes.
-pub(crate) fn end_if_any(res: u8, before: Bench) -> Bench
-    ensures { result ≡ ended_if_any res before }
-{
-    let job = before.job;
-    if job.job == 0 {
-        return before;
-    }
-    end_with(res, before)
-}
-
-/// Step `step` begins: nothing is counted yet, some ready frames are to be dropped, and the host writes
-/// the row and goes on at the deadline.
-pub(crate) fn step_at(now: u64, step: u8, before: Bench) -> Served
-    ensures { result ≡ step_at now step before }
-{
-    let mut job = before.job;
-    job.job_step = step;
-    job.job_n = 0;
-    job.job_a = 0.0;
-    job.job_b = 0.0;
-    let ranges = step_ranges(kind_in(job), step, before.ranges);
-    let skip = drops_of(place_in(job));
-    let stat = stat_of(place_in(job));
-    let at = deadline(now, settle_of(place_in(job)));
-    let mut cycle = before.cycle;
-    cycle.skip = skip;
-    cycle.stat = stat;
-    let mut after = before;
-    after.ranges = ranges;
-    after.cycle = cycle;
-    after.job = job;
-    Served {
-        bench: after,
-        mark: Stamp { set: true, at },
+impl Served {
+    /// No mark to the host.
+    pub(crate) fn unmarked(bench: Bench) -> Served
+        ensures { result ≡ unmarked bench }
+    {
+        Served {
+            bench,
+            mark: Stamp::NONE,
+        }
     }
 }
 
-/// The step after the one that is done begins.
-pub(crate) fn next(now: u64, before: Bench) -> Served
-    ensures { result ≡ next now before }
-{
-    let job = before.job;
-    step_at(now, count_up(job.job_step), before)
-}
+impl Bench {
+    /// The running job's kind.
+    #[tactic(auto, unfolding(crate::specs::Bench::kind_in))]
+    pub(crate) fn kind(self) -> Kind
+        ensures { result ≡ kind_in self.job }
+    {
+        Kind::from(self.job.job)
+    }
 
-/// A job begins: what it finds is noted, and step 0 begins.
-pub(crate) fn begin(now: u64, kind: Kind, before: Bench) -> Served
-    ensures { result ≡ begun now kind before }
-{
-    let number = kind_number(kind);
-    let found = before.ranges;
-    let corrections = before.corrections;
-    let zx = corrections.zx;
-    let zd = corrections.zd;
-    let mut job = before.job;
-    job.job_save = found;
-    job.job = number;
-    job.job_last = number;
-    job.job_res = JR_RUN;
-    job.job_vr = found.vr;
-    job.job_zx = zx;
-    job.job_zd = zd;
-    job.used = 0;
-    let mut after = before;
-    after.job = job;
-    step_at(now, 0, after)
+    /// What the running job's step measures.
+    #[tactic(auto, unfolding(crate::specs::Bench::place_in))]
+    pub(crate) fn place(self) -> Place
+        ensures { result ≡ place_in self.job }
+    {
+        Place::of(self.kind(), self.job.job_dc, self.job.job_step)
+    }
+
+    /// The running job ends: the ranges and automatic marks found at its start come back, and the host is
+    /// to re-apply if the meter is on. What is stored of zeros and gains stays.
+    #[tactic(auto, unfolding(crate::specs::Bench::ended))]
+    pub(crate) fn end_with(self, end: Result<(), JobError>) -> Bench
+        ensures { result ≡ ended (result_number end) self }
+    {
+        Bench {
+            mode: Mode {
+                cal_req: self.mode.on,
+                ..self.mode
+            },
+            ranges: self.job.job_save,
+            job: Job {
+                job: 0,
+                job_res: result_number(end),
+                ..self.job
+            },
+            ..self
+        }
+    }
+
+    /// The same where a job runs; else nothing changes.
+    #[tactic(auto, unfolding(crate::specs::Bench::ended_if_any))]
+    pub(crate) fn end_if_any(self, end: Result<(), JobError>) -> Bench
+        ensures { result ≡ ended_if_any (result_number end) self }
+    {
+        if self.job.job == 0 {
+            self
+        } else {
+            self.end_with(end)
+        }
+    }
+
+    /// Step `step` begins: nothing is counted yet, some ready frames are to be dropped, and the host writes
+    /// the row and goes on at the deadline.
+    #[tactic(auto, unfolding(crate::specs::Bench::step_at))]
+    pub(crate) fn step_at(self, now: u64, step: u8) -> Served
+        ensures { result ≡ step_at now step self }
+    {
+        let begun = Bench {
+            job: Job {
+                job_step: step,
+                job_n: 0,
+                job_a: 0.0,
+                job_b: 0.0,
+                ..self.job
+            },
+            ..self
+        };
+        let place = begun.place();
+        let at = deadline(now, place.settle_ms());
+        Served {
+            bench: Bench {
+                ranges: begun.kind().step_ranges(step, self.ranges),
+                cycle: Cycle {
+                    skip: place.drops(),
+                    stat: place.stat(),
+                    ..self.cycle
+                },
+                ..begun
+            },
+            mark: Stamp { set: true, at },
+        }
+    }
+
+    /// The step after the one that is done begins.
+    #[tactic(auto, unfolding(crate::specs::Bench::next))]
+    pub(crate) fn next(self, now: u64) -> Served
+        ensures { result ≡ next now self }
+    {
+        self.step_at(now, count_up(self.job.job_step))
+    }
+
+    /// A job begins: what it finds is noted, and step 0 begins.
+    #[tactic(auto, unfolding(crate::specs::Bench::begun))]
+    pub(crate) fn begin(self, now: u64, kind: Kind) -> Served
+        ensures { result ≡ begun now kind self }
+    {
+        let number = u8::from(kind);
+        let Corrections { zx, zd, .. } = self.corrections;
+        let job = Job {
+            job: number,
+            job_zx: zx,
+            job_zd: zd,
+            job_save: self.ranges,
+            job_res: JR_RUN,
+            job_vr: self.ranges.vr,
+            job_last: number,
+            used: 0,
+            ..self.job
+        };
+        Bench { job, ..self }.step_at(now, 0)
+    }
 }
 
 /// A start that the alternating method refuses.
+#[tactic(auto, unfolding(crate::specs::Bench::turned_away))]
 pub(crate) fn turned_away(kind: Kind, before: Job) -> Job
     ensures { result ≡ turned_away kind before }
 {
-    let number = kind_number(kind);
-    let mut after = before;
-    after.job_last = number;
-    after.job_res = JR_METHOD;
-    after
+    Job {
+        job_last: u8::from(kind),
+        job_res: JR_METHOD,
+        ..before
+    }
 }

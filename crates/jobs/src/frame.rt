@@ -1,92 +1,85 @@
 //! A frame in a job.
 ghost use Rattle.std.specs.Prelude.{◌≡◌};
-ghost use Rattle.jobs.specs.Frame.{counted, served_by, served, job_frame};
+ghost use Rattle.jobs.specs.Frame.{counted, by_reading, served, job_frame};
 
-use crate::bench::{Bench, Served, kind_in, place_in};
-use crate::step::{end_unmarked, step_done};
+use crate::bench::{Bench, Served};
 use codes::Codes;
-use state::{Stamp, count_up};
-use steps::place::is_ready;
-use steps::reading::{Reading, is_signal, old_zero, reading_of};
+use state::{Cycle, Job, count_up};
+use steps::error::JobError;
+use steps::reading::{Reading, counted_reading};
 use tables::calibration::Calibration;
-use tables::constants::{JOB_N, JR_SIGNAL};
+use tables::constants::JOB_N;
 
-// A reading is counted; the third ends its step.
-fn count(now: u64, reading: Reading, before: Bench) -> Served
-    ensures { result ≡ counted now reading before }
-{
-    let mut job = before.job;
-    let n = count_up(job.job_n);
-    let a = job.job_a + reading.x;
-    let b = job.job_b + reading.y;
-    job.job_n = n;
-    job.job_a = a;
-    job.job_b = b;
-    let mut after = before;
-    after.job = job;
-    if n < JOB_N {
-        return Served {
-            bench: after,
-            mark: Stamp::NONE,
+impl Bench {
+    // A reading is counted; the third ends its step.
+    #[tactic(auto, unfolding(crate::specs::Frame::counted))]
+    fn count(self, now: u64, reading: Reading) -> Served
+        ensures { result ≡ counted now reading self }
+    {
+        let job = Job {
+            job_n: count_up(self.job.job_n),
+            job_a: self.job.job_a + reading.x,
+            job_b: self.job.job_b + reading.y,
+            ..self.job
         };
+        let after = Bench { job, ..self };
+        if job.job_n < JOB_N {
+            return Served::unmarked(after);
+        }
+        after.step_done(now, job.job_a / 3.0, job.job_b / 3.0)
     }
-    step_done(now, kind_in(job), a / 3.0, b / 3.0, after)
-}
 
-// A ready frame, with its reading and whether it is a signal where none may be: dropped, or the end, or
-// counted.
-fn serve_by(now: u64, signal: bool, reading: Reading, before: Bench) -> Served
-    ensures { result ≡ served_by now signal reading before }
-{
-    let skip = before.cycle.skip;
-    if skip > 0 {
-        let left = skip - 1;
-        let mut after = before;
-        after.cycle.skip = left;
-        return Served {
-            bench: after,
-            mark: Stamp::NONE,
+    // What the reading of a frame does that is not dropped: it is counted, or ends the job.
+    fn count_or_end(self, now: u64, reading: Result<Reading, JobError>) -> Served
+        ensures { result ≡ by_reading now reading self }
+    {
+        match reading {
+            Ok(reading) => self.count(now, reading),
+            Err(error) => self.end_unmarked(Err(error)),
+        }
+    }
+
+    // A ready frame at its step: dropped, or the end where it is a signal and none may be, or counted.
+    #[tactic(auto, using(crate::proofs::Reading::by_signal), unfolding(crate::specs::Frame::served, crate::specs::Frame::served_by))]
+    fn serve(self, now: u64, calibration: Calibration, codes: Codes) -> Served
+        ensures { result ≡ served now calibration codes self }
+    {
+        if self.cycle.skip > 0 {
+            let cycle = Cycle {
+                skip: self.cycle.skip - 1,
+                ..self.cycle
+            };
+            return Served::unmarked(Bench { cycle, ..self });
+        }
+        let reading = counted_reading(
+            self.place(),
+            self.job.job_step,
+            calibration,
+            self.ranges.vr,
+            self.corrections,
+            codes,
+        );
+        self.count_or_end(now, reading)
+    }
+
+    /// A frame in a job; one that is not ready changes nothing.
+    #[tactic(auto, unfolding(crate::specs::Frame::job_frame))]
+    pub(crate) fn job_frame(
+        self,
+        now: u64,
+        calibration: Calibration,
+        flags: u8,
+        codes: Codes,
+    ) -> Served
+        ensures { result ≡ job_frame now calibration flags codes self }
+    {
+        if !self.place().is_ready(flags) {
+            return Served::unmarked(self);
+        }
+        let job = Job {
+            used: count_up(self.job.used),
+            ..self.job
         };
-    }
-    if signal {
-        return end_unmarked(JR_SIGNAL, before);
-    }
-    count(now, reading, before)
-}
-
-// A ready frame at its step.
-fn serve(now: u64, calibration: Calibration, codes: Codes, before: Bench) -> Served
-    ensures { result ≡ served now calibration codes before }
-{
-    let job = before.job;
-    let corrections = before.corrections;
-    let vr = before.ranges.vr;
-    let old = old_zero(corrections, job.job_step);
-    let signal = is_signal(place_in(job), old, codes);
-    let reading = reading_of(place_in(job), calibration, vr, corrections, codes);
-    serve_by(now, signal, reading, before)
-}
-
-/// A frame in a job; one that is not ready changes nothing.
-pub(crate) fn job_frame(
-    now: u64,
-    calibration: Calibration,
-    flags: u8,
-    codes: Codes,
-    before: Bench,
-) -> Served
-    ensures { result ≡ job_frame now calibration flags codes before }
-{
-    let mut job = before.job;
-    if is_ready(place_in(job), flags) {
-        let used = count_up(job.used);
-        job.used = used;
-        let mut after = before;
-        after.job = job;
-        return serve(now, calibration, codes, after);
-    }
-    Served {
-        bench: before,
-        mark: Stamp::NONE,
+        Bench { job, ..self }.serve(now, calibration, codes)
     }
 }

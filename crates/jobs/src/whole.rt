@@ -1,12 +1,13 @@
 //! The jobs on a whole meter. Whether a call is refused is module 7's part.
 ghost use Rattle.std.specs.Prelude.{◌≡◌};
+ghost use Rattle.steps.specs.Error.{result_number};
 ghost use Rattle.jobs.specs.Whole.{bench_in, with_bench, job_started, job_turned_away, job_ended, job_polled};
 
-use crate::bench::{Bench, begin, end_if_any, turned_away};
-use crate::frame::job_frame;
+use crate::bench::{Bench, turned_away};
 use codes::Codes;
 use phase::cal_off;
-use state::{Pw, Stamp};
+use state::{Clock, Pw, Stamp};
+use steps::error::JobError;
 use steps::place::Kind;
 
 /// What a job's start leaves, and the mark to the host.
@@ -26,85 +27,86 @@ pub struct Polled {
     pub used: u8,
 }
 
-// The part of a meter that a job works on.
-fn bench_in(pw: Pw) -> Bench
-    ensures { result ≡ bench_in pw }
-{
-    let mode = pw.mode;
-    let ranges = pw.ranges;
-    let cycle = pw.cycle;
-    let corrections = pw.corrections;
-    let job = pw.job;
-    Bench {
-        mode,
-        ranges,
-        cycle,
-        corrections,
-        job,
+impl Bench {
+    // The part of a meter that a job works on.
+    #[tactic(auto, unfolding(crate::specs::Whole::bench_in))]
+    fn of(pw: Pw) -> Bench
+        ensures { result ≡ bench_in pw }
+    {
+        Bench {
+            mode: pw.mode,
+            ranges: pw.ranges,
+            cycle: pw.cycle,
+            corrections: pw.corrections,
+            job: pw.job,
+        }
+    }
+
+    // The meter with that changed.
+    #[tactic(auto, unfolding(crate::specs::Whole::with_bench))]
+    fn put_into(self, before: Pw) -> Pw
+        ensures { result ≡ with_bench before self }
+    {
+        Pw {
+            mode: self.mode,
+            ranges: self.ranges,
+            cycle: self.cycle,
+            corrections: self.corrections,
+            job: self.job,
+            ..before
+        }
     }
 }
 
-// The meter with that changed.
-fn with_bench(before: Pw, bench: Bench) -> Pw
-    ensures { result ≡ with_bench before bench }
-{
-    let mode = bench.mode;
-    let ranges = bench.ranges;
-    let cycle = bench.cycle;
-    let corrections = bench.corrections;
-    let job = bench.job;
-    let mut after = before;
-    after.mode = mode;
-    after.ranges = ranges;
-    after.cycle = cycle;
-    after.corrections = corrections;
-    after.job = job;
-    after
-}
-
 /// A job starts, a phase calibration stops.
+#[tactic(auto, unfolding(crate::specs::Whole::job_started, crate::specs::Whole::with_bench))]
 pub fn job_start(before: Pw, kind: Kind, now: u64) -> Started
     ensures { result ≡ job_started before kind now }
 {
-    let served = begin(now, kind, bench_in(before));
-    let mark = served.mark;
-    let phase_cal = cal_off(before.phase_cal);
-    let mut after = with_bench(before, served.bench);
-    after.phase_cal = phase_cal;
-    Started { pw: after, mark }
+    let served = Bench::of(before).begin(now, kind);
+    Started {
+        pw: Pw {
+            phase_cal: cal_off(before.phase_cal),
+            ..served.bench.put_into(before)
+        },
+        mark: served.mark,
+    }
 }
 
 /// A job's start that is refused with 3.
+#[tactic(auto, unfolding(crate::specs::Whole::job_turned_away, crate::specs::Whole::with_bench, crate::specs::Whole::bench_in))]
 pub fn job_turned_away(before: Pw, kind: Kind) -> Pw
     ensures { result ≡ job_turned_away before kind }
 {
-    let job = turned_away(kind, before.job);
-    let mut after = before;
-    after.job = job;
-    after
+    Pw {
+        job: turned_away(kind, before.job),
+        ..before
+    }
 }
 
-/// The running job ends with this result; where none runs nothing changes.
-pub fn job_end(before: Pw, res: u8) -> Pw
-    ensures { result ≡ job_ended before res }
+/// The running job ends so; where none runs nothing changes.
+#[tactic(auto, unfolding(crate::specs::Whole::job_ended))]
+pub fn job_end(before: Pw, end: Result<(), JobError>) -> Pw
+    ensures { result ≡ job_ended before (result_number end) }
 {
-    with_bench(before, end_if_any(res, bench_in(before)))
+    Bench::of(before).end_if_any(end).put_into(before)
 }
 
 /// A frame in a job. (Where none runs, it is taken as a gain job's; module 7 calls it only in a job.)
+#[tactic(auto, unfolding(crate::specs::Whole::job_polled, crate::specs::Whole::with_bench))]
 pub fn job_poll(before: Pw, now: u64, flags: u8, codes: Codes) -> Polled
     ensures { result ≡ job_polled before now flags codes }
 {
-    let calibration = before.calibration;
-    let served = job_frame(now, calibration, flags, codes, bench_in(before));
-    let mark = served.mark;
-    let bench = served.bench;
-    let used = bench.job.used;
-    let mut after = with_bench(before, bench);
-    after.clock.t_poll = now;
+    let served = Bench::of(before).job_frame(now, before.calibration, flags, codes);
     Polled {
-        pw: after,
-        mark,
-        used,
+        pw: Pw {
+            clock: Clock {
+                t_poll: now,
+                ..before.clock
+            },
+            ..served.bench.put_into(before)
+        },
+        mark: served.mark,
+        used: served.bench.job.used,
     }
 }

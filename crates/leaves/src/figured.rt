@@ -6,9 +6,9 @@ ghost use Rattle.figures.specs.Acc.{acc_step, add_to};
 ghost use Rattle.figures.specs.Tally.{fresh_tally, accounting_step};
 ghost use Rattle.leaves.specs.Host.{numbered_sum, numbered_tally};
 
-use figures::acc::{Acc, Added};
+use figures::acc::{Acc, Sum};
 use figures::load::Figures;
-use figures::tally::{Accounted, Tally};
+use figures::tally::Tally;
 use refusals::Refusal;
 
 /// `struct leaf_added`
@@ -58,22 +58,20 @@ pub extern "C" fn leaf_ema_rel(a: f32, floor: f32, x: f32, y: f32) -> f32
 }
 
 // The answer of an add to a, as a struct.
-fn numbered_sum(a: Acc, answer: Added) -> NumberedSum
+fn numbered_sum(a: Acc, answer: Result<Sum, Refusal>) -> NumberedSum
     ensures { result ≡ numbered_sum a answer }
 {
     match answer {
-        Added::Sum(b, w) => NumberedSum {
+        Ok(sum) => NumberedSum {
             refusal: 0,
-            acc: b,
-            whole: w,
+            acc: sum.acc,
+            whole: sum.gained,
         },
-        Added::Full => {
-            NumberedSum {
-                refusal: refusals::number(Refusal::Full),
-                acc: a,
-                whole: 0,
-            }
-        }
+        Err(refusal) => NumberedSum {
+            refusal: refusals::number(refusal),
+            acc: a,
+            whole: 0,
+        },
     }
 }
 
@@ -95,7 +93,7 @@ pub extern "C" fn leaf_add_to(a: Acc, joules: f32) -> NumberedSum
 pub extern "C" fn leaf_fresh_tally() -> Tally
     ensures { result ≡ fresh_tally }
 {
-    figures::tally::fresh()
+    Tally::ZERO
 }
 
 #[unsafe(no_mangle)]
@@ -109,17 +107,15 @@ pub extern "C" fn leaf_accounting_step(
     ensures { result ≡ numbered_tally t (accounting_step t dt p s active) }
 {
     match figures::tally::accounting_step(t, dt, p, s, active) {
-        Accounted::Counted(u, w) => NumberedTally {
+        Ok(counted) => NumberedTally {
             refusal: 0,
-            tally: u,
-            whole: w,
+            tally: counted.tally,
+            whole: counted.gained,
         },
-        Accounted::Full => {
-            NumberedTally {
-                refusal: refusals::number(Refusal::Full),
-                tally: t,
-                whole: 0,
-            }
-        }
+        Err(refusal) => NumberedTally {
+            refusal: refusals::number(refusal),
+            tally: t,
+            whole: 0,
+        },
     }
 }

@@ -8,7 +8,9 @@ ghost use Rattle.leaves.specs.Host.{host_outcome};
 use codes::Codes;
 use jobs::whole::{Polled, Started};
 use phase::PhaseStep;
-use state::{PhaseCal, Pw};
+use state::{Job, PhaseCal, Pw};
+use steps::error::JobError;
+use steps::place::Kind;
 
 /// `struct leaf_cal_outcome`
 #[derive(Clone, Copy)]
@@ -19,13 +21,15 @@ pub struct HostOutcome {
 }
 
 #[unsafe(no_mangle)]
+#[tactic(auto, unfolding(crate::specs::Host::host_outcome))]
 pub extern "C" fn leaf_cal_outcome(s: f32) -> HostOutcome
     ensures { result ≡ host_outcome (cal_outcome s) }
 {
     let outcome = phase::cal_outcome(s);
-    let number = phase::cal_number(outcome);
-    let steps = phase::cal_steps(outcome, 0);
-    HostOutcome { number, steps }
+    HostOutcome {
+        number: phase::cal_number(outcome),
+        steps: outcome.unwrap_or(0),
+    }
 }
 
 #[unsafe(no_mangle)]
@@ -46,21 +50,33 @@ pub extern "C" fn leaf_cal_account(before: PhaseCal, cal_req: bool) -> PhaseStep
 pub extern "C" fn leaf_job_start(pw: Pw, kind: u8, now: u64) -> Started
     ensures { result ≡ job_started pw (kind_of kind) now }
 {
-    jobs::whole::job_start(pw, steps::place::kind_of(kind), now)
+    jobs::whole::job_start(pw, Kind::from(kind), now)
 }
 
 #[unsafe(no_mangle)]
 pub extern "C" fn leaf_job_turned_away(pw: Pw, kind: u8) -> Pw
     ensures { result ≡ job_turned_away pw (kind_of kind) }
 {
-    jobs::whole::job_turned_away(pw, steps::place::kind_of(kind))
+    jobs::whole::job_turned_away(pw, Kind::from(kind))
 }
 
+/// The comparison hands any number as the result, also one that no job of the library ends with.
 #[unsafe(no_mangle)]
+#[tactic(auto, unfolding(jobs::specs::Whole::job_ended, jobs::specs::Whole::with_bench, jobs::specs::Whole::bench_in, jobs::specs::Bench::ended_if_any, jobs::specs::Bench::ended))]
 pub extern "C" fn leaf_job_end(pw: Pw, res: u8) -> Pw
     ensures { result ≡ job_ended pw res }
 {
-    jobs::whole::job_end(pw, res)
+    let after = jobs::whole::job_end(pw, Err(JobError::Abort));
+    if pw.job.job == 0 {
+        return after;
+    }
+    Pw {
+        job: Job {
+            job_res: res,
+            ..after.job
+        },
+        ..after
+    }
 }
 
 #[unsafe(no_mangle)]

@@ -2,11 +2,11 @@
 ghost use Rattle.std.specs.Prelude.{◌≡◌};
 ghost use Rattle.state.specs.Fresh.{new_pw};
 ghost use Rattle.paths.specs.Frame.{frame};
-ghost use Rattle.paths.specs.Whole.{instrument_in, measuring_in};
+ghost use Rattle.paths.specs.Whole.{setup_in, measuring_in};
 ghost use Rattle.ranging.specs.Apply.{apply};
-ghost use Rattle.leaves.specs.Host.{keep_of, measured_pw, applied_pw};
+ghost use Rattle.leaves.specs.Host.{keep_of, frame_at, measured_pw, applied_pw};
 
-use codes::Codes;
+use codes::{Codes, Frame};
 use ranging::apply::Keep;
 use state::{Pw, Stamp};
 use tables::calibration::Calibration;
@@ -37,19 +37,20 @@ pub extern "C" fn leaf_frame(
     lpf: i32,
     rms: i64,
 ) -> MeasuredPw
-    ensures { result ≡ measured_pw pw flags (record { ad1 = ad1; lpf = lpf; rms = rms }) now (frame (instrument_in pw) pw.mode flags (record { ad1 = ad1; lpf = lpf; rms = rms }) now (measuring_in pw)) }
+    ensures { result ≡ measured_pw pw (frame_at now flags ad1 lpf rms) (frame (setup_in pw) (frame_at now flags ad1 lpf rms) (measuring_in pw)) }
 {
-    let codes = Codes { ad1, lpf, rms };
-    let with = paths::whole::instrument_in(pw);
+    let frame = Frame {
+        flags,
+        codes: Codes { ad1, lpf, rms },
+        now,
+    };
+    let setup = paths::whole::setup_in(pw);
     let before = paths::whole::measuring_in(pw);
-    let outcome = paths::frame::frame(with, pw.mode, flags, codes, now, before);
-    let taken = outcome.ad1_taken;
-    let ring = paths::ring::ring_after(pw.ring, pw.mode, pw.cycle, flags, codes, now, taken);
-    let after = paths::whole::with_measuring(pw, outcome.measuring, ring);
-    let mark = outcome.mark;
+    let outcome = paths::frame::frame(setup, frame, before);
+    let ring = paths::ring::ring_after(pw.ring, pw.mode, pw.cycle, frame, outcome.ad1_taken);
     MeasuredPw {
-        pw: after,
-        mark,
+        pw: paths::whole::with_measuring(pw, outcome.measuring, ring),
+        mark: outcome.mark,
         to_values: outcome.to_values,
     }
 }

@@ -1,16 +1,16 @@
 //! The leaf functions of module 2.
 ghost use Rattle.std.specs.Prelude.{◌≡◌};
 ghost use Rattle.std.specs.Float.{nan};
-ghost use Rattle.refusals.specs.Number.{refusal_number};
 ghost use Rattle.tables.specs.Bounds.{entry_at};
 ghost use Rattle.tables.specs.Constants.{v_lim, i_lim, shunt_ohm, kv, cycle_at};
 ghost use Rattle.tables.specs.Decided.{k_acv, dcv_negk, acv_win, aca_win};
 ghost use Rattle.tables.specs.Ranges.{iu_ir, cal_index, coup_of, next_coupling};
-ghost use Rattle.tables.specs.Description.{description_refusal};
+ghost use Rattle.tables.specs.Description.{check_description};
 ghost use Rattle.tables.specs.Calibration.{calibration_of, cal, factor, offset};
 ghost use Rattle.tables.specs.Gain.{v_gain_factory, v_gain};
-ghost use Rattle.leaves.specs.Host.{iu_ir_pair, numbered};
+ghost use Rattle.leaves.specs.Host.{iu_ir_pair, checked_number, numbered};
 
+use refusals::Refusal;
 use tables::calibration::Calibration;
 use tables::description::Description;
 
@@ -68,21 +68,27 @@ pub extern "C" fn leaf_next_coupling(c: u8) -> u8
 
 #[unsafe(no_mangle)]
 pub extern "C" fn leaf_description_refusal(d: Description) -> u8
-    ensures { result ≡ refusal_number (description_refusal d) }
+    ensures { result ≡ checked_number (check_description d) }
 {
-    refusals::number(tables::description::description_refusal(d))
+    match tables::description::check_description(d) {
+        Ok(()) => refusals::number(Refusal::Done),
+        Err(refusal) => refusals::number(refusal),
+    }
 }
 
 #[unsafe(no_mangle)]
 pub extern "C" fn leaf_calibration_of(words: &[u32], valid: bool) -> NumberedCalibration
     ensures { result ≡ numbered (calibration_of words.now valid) }
 {
-    let answer = tables::calibration::calibration_of(words, valid);
-    let refusal = answer.refusal;
-    let calibration = answer.calibration;
-    NumberedCalibration {
-        refusal: refusals::number(refusal),
-        calibration,
+    match tables::calibration::calibration_of(words, valid) {
+        Ok(calibration) => NumberedCalibration {
+            refusal: refusals::number(Refusal::Done),
+            calibration,
+        },
+        Err(refusal) => NumberedCalibration {
+            refusal: refusals::number(refusal),
+            calibration: Calibration::NONE,
+        },
     }
 }
 

@@ -16,5 +16,5 @@ pub extern "C" fn leaf_no_neg_zero(x: f32, dec: u8) -> f32
 pub extern "C" fn leaf_zero_vals() -> PowerVals
     ensures { result ≡ zero_vals }
 {
-    PowerVals::zero()
+    PowerVals::default()
 }

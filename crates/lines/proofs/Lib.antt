@@ -1,7 +1,7 @@
 pub mod Digits
-pub mod Pairs
 pub mod Items
-pub mod Lengths
+pub mod Pairs
 pub mod Spelled
 pub mod Only
+pub mod Lengths
 pub mod Stated

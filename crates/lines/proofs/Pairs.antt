@@ -1,17 +1,12 @@
--- The bytes that pairs of hex digits spell: how many, the one at an index, and an array that is filled with them.
-use mathlib.Core.Path.{◌≡◌, refl, sym, ap, ◌∙◌}
-use mathlib.Core.Bool.{true, ◌&&◌}
-use mathlib.Core.List.{List, [], ◌∷◌, ◌++◌, append_assoc, append-nil}
-use Prim.Native.Nat.{ℕ, suc, ◌+◌, ◌-◌, ◌*◌, ◌/◌, ◌%◌, ◌≤◌, ◌<◌}
-use native.Mathlib.Numerals.{add-one}
-use native.Mathlib.Omega.{arith}
-use borrow.Author.Tests.{leb-true, eqb-true}
-use lib.Dec.{leb, eqb}
-use lib.ListN.{length, get_or, take, drop, set, replicate, take-append-drop, drop_of_length-le}
-use lib.Seq.{drop-cons, drop-drop, drop-set-lt, take-suc-set}
-use Rattle.lines.specs.Digits.{within, digit_of, all_digits, number_of, bytes_of}
-use Rattle.lines.specs.Spelling.{is_frame, padded}
-use Rattle.lines.proofs.Digits.{both, digit_at}
+-- The bytes that pairs of hex digits spell, pair by pair.
+use Rattle.std.proofs.Common.{◌≡◌, ℕ, ◌%◌, ◌≤◌, Bool, true, false, cond, ◌&&◌, eqb, leb, List, [], ◌∷◌, ◌++◌, length, get_or, Option, Some, None, sym, refl, ap, ◌∙◌, arith, append-nil}
+use mathlib.Core.List.{append_assoc}
+use borrow.Author.Tests.{leb-true, eqb-true, le-leb, eq-eqb}
+use Rattle.arrayvec.specs.ArrayVec.{ArrayVec}
+use Rattle.std.specs.Char.{is_digit}
+use Rattle.lines.specs.Digits.{within, all_digits, number_of, bytes_of, byte_in}
+use Rattle.lines.specs.Spelling.{is_frame, frame_in}
+use Rattle.lines.proofs.Digits.{both}
 
 -- what is known of H
 pub record Frame (h : List ℕ) : Type 0 where
@@ -32,64 +27,58 @@ frame h e =
       digits = (both (within 2 64 (length h) && eqb (length h % 2) 0) (all_digits 16 h) e).1;
     }
 
--- ---- as many as there are pairs
-pub count : (h : List ℕ) → length (bytes_of h) ≡ length h / 2
+-- a list of two is its two elements
+of_two : (l : List ℕ) → length l ≡ 2 → l ≡ get_or l 0 0 ∷ get_or l 1 0 ∷ []
+of_two [] h = absurd (omega (arith, h))
+of_two (a ∷ []) h = absurd (omega (arith, h))
+of_two (a ∷ b ∷ []) h = refl
+of_two (a ∷ b ∷ c ∷ l) h = absurd (omega (arith, h))
+
+-- ---- pair by pair: what the digits left are read as, some bytes having been read before them
+abbrev pub pairing : List ℕ → List ℕ → Option (ArrayVec ℕ)
+pairing bytes l = cond (all_digits 16 l) (Some (record { items = bytes ++ bytes_of l })) None
+
+pub first : (h : List ℕ) → 2 ≤ length h → length h ≤ 64 → length h % 2 ≡ 0 → pairing [] h ≡ frame_in h
+unfolding is_frame
+first h a b k = rw (le-leb 2 (length h) a, le-leb (length h) 64 b, eq-eqb (length h % 2) 0 k)
+
+-- a pair of digits, and one that is none
+module _ (bytes l : List ℕ) (r : Option (ArrayVec ℕ)) where
+  read_two : (a b v : ℕ) → Some v ≡ byte_in a b → pairing bytes (a ∷ b ∷ l) ≡ r → pairing (bytes ++ (v ∷ [])) l ≡ r
+  unfolding bytes_of
+  read_two a b v = go (is_digit a 16) (is_digit b 16)
+    where
+      go : (s t : Bool) → Some v ≡ cond (s && (t && true)) (Some (number_of 16 (a ∷ b ∷ []))) None
+          → cond (s && (t && all_digits 16 l)) (Some (record { items = bytes ++ (number_of 16 (a ∷ b ∷ []) ∷ bytes_of l) })) None ≡ r
+          → pairing (bytes ++ (v ∷ [])) l ≡ r
+      go true true e k =
+          let w : v ≡ number_of 16 (a ∷ b ∷ []) = cc in
+          ap (λ (x : List ℕ). cond {A = Option (ArrayVec ℕ)} (all_digits 16 l) (Some (record { items = x })) None) (append_assoc bytes (v ∷ []) (bytes_of l) ∙ ap (λ (x : ℕ). bytes ++ (x ∷ bytes_of l)) w) ∙ k
+      go true false e k = cc
+      go false t e k = cc
+
+  none_of_two : (a b : ℕ) → None ≡ byte_in a b → pairing bytes (a ∷ b ∷ l) ≡ r → None ≡ r
+  none_of_two a b = go (is_digit a 16) (is_digit b 16)
+    where
+      go : (s t : Bool) → None ≡ cond (s && (t && true)) (Some (number_of 16 (a ∷ b ∷ []))) None
+          → cond (s && (t && all_digits 16 l)) (Some (record { items = bytes ++ bytes_of (a ∷ b ∷ l) })) None ≡ r
+          → None ≡ r
+      go true true e k = cc
+      go true false e k = k
+      go false t e k = k
+
+  module _ (p all : List ℕ) (h : length p ≡ 2) (e : all ≡ p ++ l) (k : pairing bytes all ≡ r) where
+    whole : pairing bytes (get_or p 0 0 ∷ get_or p 1 0 ∷ l) ≡ r
+    whole = ap (λ (x : List ℕ). pairing bytes x) (sym (e ∙ ap (λ (x : List ℕ). x ++ l) (of_two p h))) ∙ k
+
+    pub read_pair : (v : ℕ) → Some v ≡ byte_in (get_or p 0 0) (get_or p 1 0) → pairing (bytes ++ (v ∷ [])) l ≡ r
+    read_pair v d = read_two (get_or p 0 0) (get_or p 1 0) v d whole
+
+    pub read_none : None ≡ byte_in (get_or p 0 0) (get_or p 1 0) → None ≡ r
+    read_none d = none_of_two (get_or p 0 0) (get_or p 1 0) d whole
+
+-- no pair is left
+pub read_all : (bytes l : List ℕ) (r : Option (ArrayVec ℕ)) → length l ≡ 0 → pairing bytes l ≡ r → Some (record { items = bytes }) ≡ r
 unfolding bytes_of
-count [] = refl
-count (a ∷ []) = refl
-count (a ∷ b ∷ h) = ap suc (count h) ∙ go (length h)
-  where
-    go : (n : ℕ) → suc (n / 2) ≡ suc (suc n) / 2
-    go n = omega arith
-
--- ---- the pair at index i
-bytes_at : (h : List ℕ) (i : ℕ) → 2 * i + 1 < length h → bytes_of (drop (2 * i) h) ≡ number_of 16 (get_or h (2 * i) 0 ∷ get_or h (2 * i + 1) 0 ∷ []) ∷ bytes_of (drop (2 * (i + 1)) h)
-unfolding bytes_of
-bytes_at h i k = ap bytes_of (apart)
-  where
-    next : 2 * i + 2 ≡ 2 * (i + 1)
-    next = omega arith
-
-    apart : drop (2 * i) h ≡ get_or h (2 * i) 0 ∷ get_or h (2 * i + 1) 0 ∷ drop (2 * (i + 1)) h
-    apart = drop-cons h (2 * i) 0 (omega arith) ∙ ap (λ (l : List ℕ). get_or h (2 * i) 0 ∷ l) (ap (λ (n : ℕ). drop n h) (sym (add-one (2 * i))) ∙ drop-cons h (2 * i + 1) 0 k ∙ ap (λ (n : ℕ). get_or h (2 * i + 1) 0 ∷ drop n h) (up ∙ next))
-      where
-        up : suc (2 * i + 1) ≡ 2 * i + 2
-        up = omega arith
-
--- ---- an array that is filled
-pub filled : (h out : List ℕ) (i v : ℕ) → 2 * i + 1 < length h → i < length out → take i out ++ bytes_of (drop (2 * i) h) ≡ bytes_of h → v ≡ number_of 16 (get_or h (2 * i) 0 ∷ get_or h (2 * i + 1) 0 ∷ [])
-    → take (i + 1) (set out i v) ++ bytes_of (drop (2 * (i + 1)) h) ≡ bytes_of h
-filled h out i v k l e r =
-    ap (λ (n : ℕ). take n (set out i v) ++ bytes_of (drop (2 * (i + 1)) h)) (add-one i)
-    ∙ ap (λ (x : List ℕ). x ++ bytes_of (drop (2 * (i + 1)) h)) (take-suc-set out i v l)
-    ∙ append_assoc (take i out) (v ∷ []) (bytes_of (drop (2 * (i + 1)) h))
-    ∙ ap (λ (b : ℕ). take i out ++ (b ∷ bytes_of (drop (2 * (i + 1)) h))) r
-    ∙ ap (λ (x : List ℕ). take i out ++ x) (sym (bytes_at h i k))
-    ∙ e
-
-pub zeros_left : (out : List ℕ) (i v : ℕ) → i < 32 → drop i out ≡ replicate (32 - i) 0 → drop (i + 1) (set out i v) ≡ replicate (32 - (i + 1)) 0
-zeros_left out i v h e =
-    drop-set-lt (i + 1) out i v (omega arith)
-    ∙ sym (drop-drop 1 i out)
-    ∙ ap (λ (x : List ℕ). drop 1 x) (e ∙ ap (λ (n : ℕ). replicate n 0) one)
-  where
-    one : 32 - i ≡ suc (32 - (i + 1))
-    one = omega arith
-
-pub all_filled : (h out : List ℕ) (i : ℕ) → Frame h → length h / 2 ≤ i → i ≤ length h / 2 → length out ≡ 32 → take i out ++ bytes_of (drop (2 * i) h) ≡ bytes_of h → drop i out ≡ replicate (32 - i) 0
-    → out ≡ padded (bytes_of h)
-unfolding padded bytes_of
-all_filled h out i f g g' l e z = sym (take-append-drop i out) ∙ ap (λ (x : List ℕ). x ++ drop i out) front ∙ ap (λ (x : List ℕ). bytes_of h ++ x) (z ∙ ap (λ (n : ℕ). replicate (32 - n) 0) size)
-  where
-    over : (n : ℕ) → n % 2 ≡ 0 → n / 2 ≤ i → n ≤ 2 * i
-    over n a b = omega arith
-
-    front : take i out ≡ bytes_of h
-    front = sym (append-nil (take i out)) ∙ ap (λ (x : List ℕ). take i out ++ bytes_of x) (sym (drop_of_length-le h (over (length h) f.even g))) ∙ e
-
-    size : i ≡ length (bytes_of h)
-    size = omega (arith, count h)
-
--- ---- the digits of the pair at i
-pub pair_digits : (h : List ℕ) (i : ℕ) → is_frame h ≡ true → i < length h / 2 → (digit_of (get_or h (2 * i) 0) < 16) × (digit_of (get_or h (2 * i + 1) 0) < 16)
-pair_digits h i e k = (digit_at 16 h (2 * i) (frame h e).digits (omega arith), digit_at 16 h (2 * i + 1) (frame h e).digits (omega arith))
+read_all bytes [] r h k = ap (λ (x : List ℕ). Some (record { items = x })) (sym (append-nil bytes)) ∙ k
+read_all bytes (a ∷ l) r h k = absurd (omega (arith, h))

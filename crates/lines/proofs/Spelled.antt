@@ -1,21 +1,13 @@
 -- The three forms as document 01 writes them: `(on T)`, `(zero T)` and `(poll T F H)` are read as what they say, whatever T, F and H are.
-use mathlib.Core.Path.{◌≡◌, refl, sym, ap, ◌∙◌}
-use mathlib.Core.Bool.{true, false}
-use mathlib.Core.List.{List, [], ◌∷◌, ◌++◌}
-use Prim.Native.Nat.{ℕ, suc, ◌+◌, ◌-◌, ◌≤◌}
-use native.Mathlib.Numerals.{add-one}
-use native.Mathlib.Omega.{arith}
+use Rattle.std.proofs.Common.{◌≡◌, ℕ, suc, ◌+◌, ◌-◌, ◌≤◌, true, List, [], ◌∷◌, ◌++◌, eqb, length, get_or, take, Some, refl, ap, ◌∙◌, arith, length-append}
 use borrow.Author.Tests.{le-leb, eq-eqb, ne_eqb, ltb-true}
-use lib.Dec.{eqb, ltb}
-use lib.ListN.{length, get_or, take, drop, replicate, length-append}
 use lib.Seq.{take-append_seam, drop-append-add, get_or-append_seam}
-use Rattle.lines.specs.Digits.{within, digit_of, all_digits, number_of, bytes_of}
-use Rattle.lines.specs.Spelling.{space_at, item_of, rest_of, same_item, on_word, zero_word, poll_word, is_time, is_flags, is_frame, timed_line, padded, poll_line, form_of, bracketed, line_of}
-use Rattle.lines.specs.declared.Kind.{Kind}
-use Rattle.lines.specs.declared.Kind.TheVariants.{On, Zero, Poll}
-use Rattle.lines.specs.declared.Line.{Line}
+use Rattle.std.specs.Char.{digit_value, is_digit}
+use Rattle.lines.specs.Digits.{within, all_digits, number_of, bytes_of}
+use Rattle.lines.specs.Spelling.{item_of, rest_of, on_word, zero_word, poll_word, is_time, is_flags, is_frame, timed_line, poll_line, form_of, bracketed, line_of}
+use Rattle.lines.specs.declared.Line.TheVariants.{On, Zero, Poll}
 use Rattle.lines.proofs.Digits.{both}
-use Rattle.lines.proofs.Items.{poll_form_law}
+use Rattle.lines.proofs.Items.{space_at}
 
 -- ---- the notation: brackets round a form, and a space between a word or an item and the rest
 abbrev pub in_brackets : List ℕ → List ℕ
@@ -45,18 +37,13 @@ between_brackets form = rw (le-leb 2 (length (in_brackets form)) (omega (arith, 
         at n e = omega arith
 
 -- ---- no digit is a space
-space : digit_of 32 ≡ 16
-unfolding digit_of
-space = refl
-
 no_space : (base : ℕ) (t rest : List ℕ) → base ≤ 16 → all_digits base t ≡ true → space_at (then t rest) ≡ length t
-unfolding space_at all_digits
 no_space base [] rest h e = refl
 no_space base (b ∷ t) rest h e =
-    rw (ne_eqb b 32 (λ k. unlike k (both (ltb (digit_of b) base) (all_digits base t) e).0)) (ap suc (no_space base t rest h (both (ltb (digit_of b) base) (all_digits base t) e).1))
+    rw (ne_eqb b 32 (λ k. unlike k (both (is_digit b base) (all_digits base t) e).0)) (omega (arith, no_space base t rest h (both (is_digit b base) (all_digits base t) e).1))
   where
-    unlike : b ≡ 32 → ltb (digit_of b) base ≡ true → ⊥
-    unlike k l = omega (arith, ltb-true (digit_of b) base l, ap digit_of k ∙ space)
+    unlike : b ≡ 32 → is_digit b base ≡ true → ⊥
+    unlike k l = omega (arith, ltb-true (digit_value b) base l, ap digit_value k)
 
 module _ (base : ℕ) (t rest : List ℕ) (h : base ≤ 16) (e : all_digits base t ≡ true) where
   first_item : item_of (then t rest) ≡ t
@@ -65,7 +52,7 @@ module _ (base : ℕ) (t rest : List ℕ) (h : base ≤ 16) (e : all_digits base
 
   behind_it : rest_of (then t rest) ≡ rest
   unfolding rest_of
-  behind_it = rw (no_space base t rest h e) (ap (λ (n : ℕ). drop n (then t rest)) (sym (add-one (length t))) ∙ drop-append-add t (32 ∷ rest) 1)
+  behind_it = rw (no_space base t rest h e) (drop-append-add t (32 ∷ rest) 1)
 
 -- ---- the digits of T and F
 time_digits : (t : List ℕ) → is_time t ≡ true → all_digits 10 t ≡ true
@@ -77,41 +64,22 @@ unfolding is_flags
 flags_are_digits f e = (both (eqb (length f) 2) (all_digits 16 f) e).1
 
 -- ---- the three forms
-abbrev timed : Kind → List ℕ → Line
-timed kind t = record { kind = kind; time = number_of 10 t; flags = 0; bytes = replicate 32 0; count = 0 }
-
-pub on_read : (t : List ℕ) → is_time t ≡ true → line_of (in_brackets (then on_word t)) ≡ timed On t
-unfolding form_of item_of rest_of space_at same_item timed_line
+pub on_read : (t : List ℕ) → is_time t ≡ true → line_of (in_brackets (then on_word t)) ≡ Some (On (number_of 10 t))
+unfolding form_of item_of rest_of timed_line
 on_read t e = between_brackets (then on_word t) ∙ rw e
 
-pub zero_read : (t : List ℕ) → is_time t ≡ true → line_of (in_brackets (then zero_word t)) ≡ timed Zero t
-unfolding form_of item_of rest_of space_at same_item timed_line
+pub zero_read : (t : List ℕ) → is_time t ≡ true → line_of (in_brackets (then zero_word t)) ≡ Some (Zero (number_of 10 t))
+unfolding form_of item_of rest_of timed_line
 zero_read t e = between_brackets (then zero_word t) ∙ rw e
 
-poll_item : (items : List ℕ) → poll_word ≡ item_of (then poll_word items)
-unfolding item_of space_at
-poll_item items = refl
-
-poll_rest : (items : List ℕ) → items ≡ rest_of (then poll_word items)
-unfolding rest_of space_at
-poll_rest items = refl
-
-poll_alone : (same_item poll_word on_word ≡ false) × (same_item poll_word zero_word ≡ false) × (same_item poll_word poll_word ≡ true)
-unfolding same_item
-poll_alone = (refl, refl, refl)
-
 by_word : (items : List ℕ) → form_of (then poll_word items) ≡ poll_line (item_of items) (item_of (rest_of items)) (rest_of (rest_of items))
-by_word items = sym (poll_form_law (then poll_word items) poll_word items (poll_item items) (poll_rest items) poll_alone.0 poll_alone.1 poll_alone.2)
+unfolding form_of item_of rest_of
+by_word items = refl
 
 pub poll_read : (t f h : List ℕ) → is_time t ≡ true → is_flags f ≡ true → is_frame h ≡ true
-    → line_of (in_brackets (then poll_word (then t (then f h)))) ≡ record { kind = Poll; time = number_of 10 t; flags = number_of 16 f; bytes = padded (bytes_of h); count = length (bytes_of h) }
+    → line_of (in_brackets (then poll_word (then t (then f h)))) ≡ Some (Poll (number_of 10 t) (number_of 16 f) (record { items = bytes_of h }))
 unfolding poll_line
 poll_read t f h p q r = between_brackets (then poll_word (then t (then f h))) ∙ by_word (then t (then f h)) ∙ items ∙ rw (p, q, r)
   where
     items : poll_line (item_of (then t (then f h))) (item_of (rest_of (then t (then f h)))) (rest_of (rest_of (then t (then f h)))) ≡ poll_line t f h
     items = rw (first_item 10 t (then f h) (omega arith) (time_digits t p), behind_it 10 t (then f h) (omega arith) (time_digits t p), first_item 16 f h (omega arith) (flags_are_digits f q), behind_it 16 f h (omega arith) (flags_are_digits f q))
-
--- of a frame's 32 bytes the first `count` are those that its digits say
-pub brought : (l : List ℕ) → take (length l) (padded l) ≡ l
-unfolding padded
-brought l = take-append_seam l (replicate (32 - length l) 0)

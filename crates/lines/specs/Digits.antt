@@ -1,29 +1,33 @@
 -- Digits, decimal and hex: document 01's "decimal digits" and "hex digits of either case". Bytes are ASCII.
-use Rattle.std.specs.Prelude.{ℕ, ◌+◌, ◌-◌, ◌*◌, Bool, true, cond, ◌&&◌, List, [], ◌∷◌, leb, ltb}
+use Rattle.std.specs.Prelude.{ℕ, Bool, cond, ◌&&◌, List, [], ◌∷◌, Option, Some, None, nat_le}
+use Rattle.std.specs.Char.{digit_value, is_digit}
+use Rattle.std.specs.List.{list_all}
+use Rattle.std.specs.Str.Parse.{digits_value}
 
 -- from lo to hi, ends allowed
 abbrev pub within : ℕ → ℕ → ℕ → Bool
-within lo hi n = leb lo n && leb n hi
+within lo hi n = nat_le lo n && nat_le n hi
 
--- the value of a byte as a digit: `0` to `9`, `a` to `f`, `A` to `F`; 16 for a byte that is none
-unfoldable pub digit_of : ℕ → ℕ
-digit_of b = cond (within 48 57 b) (b - 48) (cond (within 97 102 b) (b - 87) (cond (within 65 70 b) (b - 55) 16))
+-- every byte is a digit of this base: `0` to `9`, `a` to `f`, `A` to `F`
+abbrev pub all_digits : ℕ → List ℕ → Bool
+all_digits base l = list_all (λ b. is_digit b base) l
 
--- every byte is a digit of this base
-unfoldable pub all_digits : ℕ → List ℕ → Bool
-all_digits base [] = true
-all_digits base (b ∷ l) = ltb (digit_of b) base && all_digits base l
-
--- the number that digits spell in a base, the greatest first, n having been read before them
-unfoldable pub read_on : ℕ → ℕ → List ℕ → ℕ
-read_on base n [] = n
-read_on base n (b ∷ l) = read_on base (n * base + digit_of b) l
-
+-- the number that digits spell in a base, the greatest first
 abbrev pub number_of : ℕ → List ℕ → ℕ
-number_of base l = read_on base 0 l
+number_of base l = digits_value base l
 
 -- the bytes that pairs of hex digits spell
 unfoldable pub bytes_of : List ℕ → List ℕ
 bytes_of (high ∷ low ∷ l) = number_of 16 (high ∷ low ∷ []) ∷ bytes_of l
 bytes_of (b ∷ []) = []
 bytes_of [] = []
+
+-- ---- what is read, if every byte is a digit
+abbrev pub digit_in : ℕ → ℕ → Option ℕ
+digit_in base b = cond (is_digit b base) (Some (digit_value b)) None
+
+abbrev pub number_in : ℕ → List ℕ → Option ℕ
+number_in base l = cond (all_digits base l) (Some (number_of base l)) None
+
+abbrev pub byte_in : ℕ → ℕ → Option ℕ
+byte_in high low = number_in 16 (high ∷ low ∷ [])

@@ -1,32 +1,24 @@
 -- A line of `pwline`, by document 01: "`(on T)`, `(zero T)`, `(poll T F H)`: T of 1 to 15 decimal digits in ms, F two hex digits of either case, H 2 to 64 such digits,
 -- even in number, one space between items"; every other line is "a line of another spelling". Lines and items are lists of ASCII bytes.
-use Rattle.std.specs.Prelude.{ℕ, suc, ◌-◌, ◌%◌, Bool, true, false, cond, ◌&&◌, List, [], ◌∷◌, ◌++◌, eqb, leb, length, get_or, take, drop, replicate}
+use Rattle.std.specs.Prelude.{ℕ, ◌-◌, ◌%◌, Bool, cond, ◌&&◌, List, [], ◌∷◌, ◌==◌, nat_le, length, take, drop, slice_index, Option, Some, None}
+use Rattle.std.specs.List.{before_first, after_first}
+use Rattle.std.specs.Str.{bytes_eq}
+use Rattle.arrayvec.specs.ArrayVec.{ArrayVec}
 use Rattle.lines.specs.Digits.{within, all_digits, number_of, bytes_of}
-use Rattle.lines.specs.declared.Kind.{Kind}
-use Rattle.lines.specs.declared.Kind.TheVariants.{On, Zero, Poll, Other}
 use Rattle.lines.specs.declared.Line.{Line}
+use Rattle.lines.specs.declared.Line.TheVariants.{On, Zero, Poll}
 
 -- ---- items
-
--- where the first space stands, or the length where there is none
-unfoldable pub space_at : List ℕ → ℕ
-space_at [] = 0
-space_at (b ∷ l) = cond (eqb b 32) 0 (suc (space_at l))
+abbrev pub is_space : ℕ → Bool
+is_space b = b == 32
 
 -- the first item: all in front of the first space
 unfoldable pub item_of : List ℕ → List ℕ
-item_of l = take (space_at l) l
+item_of l = before_first is_space l
 
 -- all behind the first space, nothing where there is none
 unfoldable pub rest_of : List ℕ → List ℕ
-rest_of l = drop (suc (space_at l)) l
-
--- whether two items are the same
-unfoldable pub same_item : List ℕ → List ℕ → Bool
-same_item [] [] = true
-same_item (a ∷ l) (b ∷ m) = eqb a b && same_item l m
-same_item [] (b ∷ m) = false
-same_item (a ∷ l) [] = false
+rest_of l = after_first is_space l
 
 -- on, zero, poll
 abbrev pub on_word : List ℕ
@@ -44,45 +36,43 @@ is_time t = within 1 15 (length t) && all_digits 10 t
 
 -- "F two hex digits of either case"
 unfoldable pub is_flags : List ℕ → Bool
-is_flags f = eqb (length f) 2 && all_digits 16 f
+is_flags f = (length f == 2) && all_digits 16 f
 
 -- "H 2 to 64 such digits, even in number"
 unfoldable pub is_frame : List ℕ → Bool
-is_frame h = within 2 64 (length h) && eqb (length h % 2) 0 && all_digits 16 h
+is_frame h = within 2 64 (length h) && (length h % 2 == 0) && all_digits 16 h
 
--- ---- lines
+-- ---- what an item says, if it is one
+abbrev pub time_in : List ℕ → Option ℕ
+time_in t = cond (is_time t) (Some (number_of 10 t)) None
 
--- "a line of another spelling"
-abbrev pub other : Line
-other = record { kind = Other; time = 0; flags = 0; bytes = replicate 32 0; count = 0 }
+abbrev pub flags_in : List ℕ → Option ℕ
+flags_in f = cond (is_flags f) (Some (number_of 16 f)) None
 
+abbrev pub frame_in : List ℕ → Option (ArrayVec ℕ)
+frame_in h = cond (is_frame h) (Some (record { items = bytes_of h })) None
+
+-- ---- lines; "a line of another spelling" is none
 -- an order with a time alone
-unfoldable pub timed_line : Kind → List ℕ → Line
-timed_line kind t = cond (is_time t) (record { kind = kind; time = number_of 10 t; flags = 0; bytes = replicate 32 0; count = 0 }) other
-
--- 32 bytes that begin with these: the first so many are these (theorem `brought` in proofs/Spelled.antt)
-unfoldable pub padded : List ℕ → List ℕ
-padded l = l ++ replicate (32 - length l) 0
+unfoldable pub timed_line : (ℕ → Line) → List ℕ → Option Line
+timed_line order t = cond (is_time t) (Some (order (number_of 10 t))) None
 
 -- a frame: its time, its flags, and as many bytes as it brings
-unfoldable pub poll_line : List ℕ → List ℕ → List ℕ → Line
-poll_line t f h =
-    cond (is_time t && is_flags f && is_frame h)
-    (record { kind = Poll; time = number_of 10 t; flags = number_of 16 f; bytes = padded (bytes_of h); count = length (bytes_of h) })
-    other
+unfoldable pub poll_line : List ℕ → List ℕ → List ℕ → Option Line
+poll_line t f h = cond (is_time t && is_flags f && is_frame h) (Some (Poll (number_of 10 t) (number_of 16 f) (record { items = bytes_of h }))) None
 
 -- what stands between the brackets: a word and its items, one space between them
-unfoldable pub form_of : List ℕ → Line
+unfoldable pub form_of : List ℕ → Option Line
 form_of l =
-    cond (same_item (item_of l) on_word) (timed_line On (rest_of l))
-    (cond (same_item (item_of l) zero_word) (timed_line Zero (rest_of l))
-    (cond (same_item (item_of l) poll_word) (poll_line (item_of (rest_of l)) (item_of (rest_of (rest_of l))) (rest_of (rest_of (rest_of l))))
-    other))
+    cond (bytes_eq (item_of l) on_word) (timed_line On (rest_of l))
+    (cond (bytes_eq (item_of l) zero_word) (timed_line Zero (rest_of l))
+    (cond (bytes_eq (item_of l) poll_word) (poll_line (item_of (rest_of l)) (item_of (rest_of (rest_of l))) (rest_of (rest_of (rest_of l))))
+    None))
 
 -- whether a line is bracketed: ( first and ) last
 unfoldable pub bracketed : List ℕ → Bool
-bracketed l = leb 2 (length l) && eqb (get_or l 0 0) 40 && eqb (get_or l (length l - 1) 0) 41
+bracketed l = nat_le 2 (length l) && (slice_index l 0 == 40) && (slice_index l (length l - 1) == 41)
 
 -- a line of any length
-unfoldable pub line_of : List ℕ → Line
-line_of l = cond (bracketed l) (form_of (take (length l - 2) (drop 1 l))) other
+unfoldable pub line_of : List ℕ → Option Line
+line_of l = cond (bracketed l) (form_of (take (length l - 2) (drop 1 l))) None

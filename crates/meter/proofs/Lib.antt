@@ -1,3 +1,4 @@
+pub mod Orders
 pub mod Entered
 pub mod Full
 pub mod Table

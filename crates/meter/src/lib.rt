@@ -4,3 +4,4 @@
 
 pub mod frame;
 pub mod making;
+pub mod says_back;

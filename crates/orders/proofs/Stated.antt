@@ -6,13 +6,14 @@ use Prim.Native.Nat.{ℕ}
 use borrow.Author.Tests.{eqb-true}
 use lib.Dec.{eqb}
 use Rattle.numbers.proofs.Cases.{either}
-use Rattle.refusals.specs.declared.Refusal.TheVariants as refusal
+use Rattle.std.specs.Prelude.{None, Ok}
 use Rattle.tables.specs.Constants.{coup_dc, jr_abort, settle_ms}
 use Rattle.tables.specs.Ranges.{coup_of}
 use Rattle.figures.specs.Tally.{fresh_tally}
 use Rattle.state.specs.declared.Job.{Job}
 use Rattle.state.specs.declared.Pw.{Pw}
 use Rattle.state.specs.declared.Settings.{Settings}
+use Rattle.state.specs.declared.Stamp.{Stamp}
 use Rattle.state.specs.Fresh.{no_time}
 use Rattle.state.proofs.Marks.{MarkAt, of_apply}
 use Rattle.ranging.specs.declared.apply.Keep.{Keep}
@@ -26,13 +27,12 @@ use Rattle.jobs.specs.Bench.{place_in, at_step, noted, ended, ended_if_any, step
 use Rattle.jobs.specs.Whole.{bench_in, with_bench, job_started, job_turned_away, job_ended}
 use Rattle.jobs.proofs.Stated.{settle_of_law}
 use Rattle.orders.specs.declared.answer.Step.{Step}
-use Rattle.orders.specs.declared.answer.Reading.TheVariants.{NoReading}
 use Rattle.orders.specs.declared.ranges.Ask.{Ask}
 use Rattle.orders.specs.With.{with_on, with_alt, with_coup, with_cal_req, with_run, with_t_last, with_mode, with_ranges, with_tally, with_settings, with_phase_cal}
 use Rattle.orders.specs.Answer.{marked, done}
 use Rattle.orders.specs.Apply.{applied, applied_if_on, aborted}
 use Rattle.orders.specs.Switches.{switched_on, switched_off, method_set, takes_force, coupling_set}
-use Rattle.orders.specs.Ranges.{v_asked, i_asked, barred_asked, same_ranges, keep_of, ranges_set}
+use Rattle.orders.specs.Ranges.{ranges_asked, barred_asked, same_ranges, keep_of, ranges_set}
 use Rattle.orders.specs.Starts.{started_step, energy_reset, set_run, set_settings}
 
 -- what no order changes: description and words, zeros and gains, smoothed values, the powers of the next interval, since when the current is above its limit, the ring, and the last frame's time
@@ -45,9 +45,13 @@ pub leaves_all : (m : Pw) → Leaves m m
 leaves_all m = (refl, refl, refl, refl, refl, refl, refl, refl)
 
 -- an order of the time t on m that is carried out, with the job and the settings that it leaves: done, with no frame counted and no reading; its mark, if any, has "the deadline (the call's time plus the source's settle)"
-abbrev pub Carried : ℕ → Pw → Job → Settings → Step → Type 0
-Carried t m j w s =
-    (s.answer.refusal ≡ refusal.Done) × (s.answer.used ≡ 0) × (s.answer.reading ≡ NoReading) × MarkAt t s.answer.mark × Leaves m s.pw × (s.pw.job ≡ j) × (s.pw.settings ≡ w)
+pub record Carried (t : ℕ) (m : Pw) (j : Job) (w : Settings) (s : Step) : Type 0 where
+  pub mark : Stamp
+  pub answer : s.answer ≡ Ok (record { mark = mark; used = 0; reading = None })
+  pub due : MarkAt t mark
+  pub leaves : Leaves m s.pw
+  pub job : s.pw.job ≡ j
+  pub settings : s.pw.settings ≡ w
 
 -- ---- an order that ends a job
 
@@ -85,11 +89,11 @@ aborted_settings m = refl
 module _ (t : ℕ) (m : Pw) (j : Job) (w : Settings) where
   applied_carried : (keep : Keep) (n : Pw) → Leaves m n → n.job ≡ j → n.settings ≡ w → Carried t m j w (applied keep n t)
   unfolding applied marked apply
-  applied_carried keep n l e f = (refl, refl, refl, inr (settle_ms, of_apply, refl), l, e, f)
+  applied_carried keep n l e f = record { mark = _; answer = refl; due = inr (settle_ms, of_apply, refl); leaves = l; job = e; settings = f }
 
   done_carried : (n : Pw) → Leaves m n → n.job ≡ j → n.settings ≡ w → Carried t m j w (done n)
   unfolding done marked
-  done_carried n l e f = (refl, refl, refl, inl refl, l, e, f)
+  done_carried n l e f = record { mark = no_time; answer = refl; due = inl refl; leaves = l; job = e; settings = f }
 
 module _ (m : Pw) (t : ℕ) where
   abbrev Ends : Step → Type 0
@@ -122,7 +126,7 @@ module _ (m : Pw) (t : ℕ) where
   unfolding ranges_set
   ranges_carried v i =
       let n = aborted m in
-      let r = i_asked i (v_asked v n.ranges) in
+      let r = ranges_asked v i n.ranges in
       let after = with_ranges n r (barred_asked i n.barred) in
       either Ends (n.mode.on && not (same_ranges n.ranges r)) (applied_carried t m n.job m.settings (keep_of n.ranges r) after (aborted_leaves m) refl (aborted_settings m))
       (done_carried t m n.job m.settings after (aborted_leaves m) refl (aborted_settings m))
@@ -132,7 +136,7 @@ module _ (m : Pw) (t : ℕ) where
 
   pub start_carried : (k : Kind) → Carried t m (job_started m k t).pw.job m.settings (started_step (job_started m k t))
   unfolding job_started begun step_at bench_in marked
-  start_carried k = let p = place_in (at_step 0 (noted k (bench_in m))) in (refl, refl, refl, inr (settle_of p, settle_of_law p, refl), leaves_all m, refl, refl)
+  start_carried k = let p = place_in (at_step 0 (noted k (bench_in m))) in record { mark = _; answer = refl; due = inr (settle_of p, settle_of_law p, refl); leaves = leaves_all m; job = refl; settings = refl }
 
   -- these four carry no time, and give no mark
   pub phase_carried : Carried t m m.job m.settings (done (with_phase_cal m (cal_started m.phase_cal)))

@@ -1,7 +1,6 @@
 -- The order `ranges`: `pw_set_ranges` of the source. Document 01 of `barred`: "a range order naming the current clears it".
-use Rattle.std.specs.Prelude.{Bool, true, false, not, ◌&&◌, cond, ℕ, eqb}
+use Rattle.std.specs.Prelude.{Bool, true, false, not, ◌&&◌, cond, ℕ, eqb, min}
 use Rattle.refusals.specs.declared.Refusal.TheVariants as refusal
-use Rattle.tables.specs.Bounds.{at_most}
 use Rattle.state.specs.declared.Pw.{Pw}
 use Rattle.state.specs.declared.Ranges.{Ranges}
 use Rattle.ranging.specs.declared.apply.Keep.{Keep}
@@ -9,28 +8,30 @@ use Rattle.ranging.specs.declared.apply.Keep.TheVariants.{Nothing, Voltage, Curr
 use Rattle.orders.specs.declared.answer.Step.{Step}
 use Rattle.orders.specs.declared.ranges.Ask.{Ask}
 use Rattle.orders.specs.declared.ranges.Ask.TheVariants.{Stay, Auto, Fixed}
+use Rattle.orders.specs.declared.ranges.Channel.{Channel}
 use Rattle.orders.specs.Answer.{late, refused_with, done}
 use Rattle.orders.specs.Apply.{applied, aborted}
-use Rattle.orders.specs.With.{with_v, with_i, with_ranges}
+use Rattle.orders.specs.With.{with_ranges}
 
--- `Some(None) => v_auto = true, Some(Some(r)) => { v_auto = false; vr = r.min(3) }, None => {}`; and so of the current, with 5
-unfoldable pub v_asked : Ask → Ranges → Ranges
-v_asked Stay r = r
-v_asked Auto r = with_v r r.vr true
-v_asked (Fixed n) r = with_v r (at_most 3 n) false
+-- of one channel: `Some(None) => auto = true, Some(Some(r)) => { auto = false; range = r.min(most) }, None => {}`
+unfoldable pub asked : Ask → ℕ → Channel → Channel
+asked Stay most c = c
+asked Auto most c = record c { auto = true }
+asked (Fixed n) most c = record { range = min n most; auto = false }
 
-unfoldable pub i_asked : Ask → Ranges → Ranges
-i_asked Stay r = r
-i_asked Auto r = with_i r r.ik true
-i_asked (Fixed n) r = with_i r (at_most 5 n) false
+-- of the voltage up to 3, and of the current up to 5
+unfoldable pub ranges_asked : Ask → Ask → Ranges → Ranges
+ranges_asked v i r =
+    let voltage = asked v 3 (record { range = r.vr; auto = r.v_auto }) in
+    let current = asked i 5 (record { range = r.ik; auto = r.i_auto }) in
+    record { vr = voltage.range; ik = current.range; v_auto = voltage.auto; i_auto = current.auto }
 
 unfoldable pub barred_asked : Ask → ℕ → ℕ
 barred_asked Stay barred = barred
-barred_asked Auto barred = 0
-barred_asked (Fixed n) barred = 0
+barred_asked _ barred = 0
 
 -- `(vr, ik) == (pw.vr, pw.ik)`
-unfoldable pub same_ranges : Ranges → Ranges → Bool
+abbrev pub same_ranges : Ranges → Ranges → Bool
 same_ranges found r = eqb r.vr found.vr && eqb r.ik found.ik
 
 -- `keep = if pw.vr == vr { 2 } else if pw.ik == ik { 4 } else { 0 }`
@@ -40,7 +41,7 @@ keep_of found r = cond (eqb r.vr found.vr) Voltage (cond (eqb r.ik found.ik) Cur
 -- once no job runs; `if on && (pw.vr, pw.ik) != (vr, ik)` it applies
 unfoldable pub ranges_set : Pw → ℕ → Ask → Ask → Step
 ranges_set m t v i =
-    let r = i_asked i (v_asked v m.ranges) in
+    let r = ranges_asked v i m.ranges in
     let after = with_ranges m r (barred_asked i m.barred) in
     cond (m.mode.on && not (same_ranges m.ranges r)) (applied (keep_of m.ranges r) after t) (done after)
 

@@ -1,5 +1,6 @@
 -- The orders zero job and gain job (`pw_zero_start`, `pw_vcal_start`), phase start (`pw_cal_start`), energy reset (`energy_reset`), run and settings. Document 01: "The source's false from `pw_job_start` and `pw_cal_start` is our 1, 2 or 3"; the order is 5, 1, 2, 3.
-use Rattle.std.specs.Prelude.{Bool, not, ◌||◌, cond, ℕ, eqb}
+use Rattle.std.specs.Prelude.{Bool, not, ◌||◌, cond, ℕ, eqb, Result, Ok, Err}
+use Rattle.refusals.specs.declared.Refusal.{Refusal}
 use Rattle.refusals.specs.declared.Refusal.TheVariants as refusal
 use Rattle.figures.specs.Tally.{fresh_tally}
 use Rattle.state.specs.declared.Pw.{Pw}
@@ -15,6 +16,14 @@ use Rattle.orders.specs.With.{with_run, with_t_last, with_tally, with_clock, wit
 
 abbrev pub started_step : Started → Step
 started_step s = marked s.pw s.mark
+
+-- how a job's start goes: carried out, or the first refusal that holds
+unfoldable pub start_tried : Pw → ℕ → Kind → Result Step Refusal
+start_tried m t k =
+    cond (late t) (Err refusal.Late)
+    (cond (not m.mode.on) (Err refusal.Off)
+    (cond (not (eqb m.job.job 0)) (Err refusal.Busy)
+    (cond m.mode.alt (Err refusal.Method) (Ok (started_step (job_started m k t))))))
 
 -- 1: "job start .. while not on"; 2: "job start .. while a job runs"; 3: "job start in alternating method", and that one "sets `job_last` and `JR_METHOD`, nothing else"
 unfoldable pub start_job : Pw → ℕ → Kind → Step

@@ -1,5 +1,6 @@
 -- The orders on, off, method, coupling and re-apply. Document 01: "On, off and method first end a job with `JR_ABORT`; on sets `dc` from the coupling and applies with nothing kept; off clears only `on`; method applies if on. Re-apply clears `cal_req` and is `pw_apply`." The coupling is `pw_set_coupling` of the source.
 use Rattle.std.specs.Prelude.{Bool, true, false, not, ◌&&◌, ◌||◌, cond, ℕ, eqb}
+use Rattle.std.specs.Bool.{beq}
 use Rattle.refusals.specs.declared.Refusal.TheVariants as refusal
 use Rattle.tables.specs.Constants.{coup_dc, jr_abort}
 use Rattle.tables.specs.Ranges.{coup_of}
@@ -22,13 +23,9 @@ switched_off m = done (with_mode m (with_on m.mode false m.mode.dc))
 unfoldable pub method_set : Pw → ℕ → Bool → Step
 method_set m t alt = applied_if_on (with_mode m (with_alt m.mode alt)) t
 
--- a != b, of two marks
-unfoldable pub differ : Bool → Bool → Bool
-differ a b = cond a (not b) b
-
 -- `on && (dc != pw.dc || job_res == JR_ABORT)`. The result may be that of a job long ended
 unfoldable pub takes_force : Bool → Mode → ℕ → Bool
-takes_force dc mode res = mode.on && (differ dc mode.dc || eqb res jr_abort)
+takes_force dc mode res = mode.on && (not (beq dc mode.dc) || eqb res jr_abort)
 
 -- `coup = coup_of(coup)`, and where that takes force at once `pw.dc = dc; keep = 0; pw_apply`, with `dc` for `coup == COUP_DC`
 unfoldable pub coupling_set : Pw → ℕ → ℕ → Step

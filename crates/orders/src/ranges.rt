@@ -1,124 +1,113 @@
 //! The order `ranges`.
 ghost use Rattle.std.specs.Prelude.{◌≡◌};
-ghost use Rattle.orders.specs.Ranges.{v_asked, i_asked, barred_asked, same_ranges, keep_of, ranges_set, set_ranges};
+ghost use Rattle.orders.specs.Ranges.{asked, ranges_asked, barred_asked, keep_of, ranges_set, set_ranges};
 
-use crate::answer::{Step, done, late, refused_with};
-use crate::apply::{aborted, applied};
+use crate::answer::{Step, done};
+use crate::apply::{applied, ending_job};
 use ranging::apply::Keep;
-use refusals::Refusal;
 use state::{Pw, Ranges};
-use tables::bounds::at_most;
 
 /// What is asked of one channel: nothing, that its range be found by itself, or a range.
-#[derive(Clone, Copy)]
+#[derive(Clone, Copy, Debug, PartialEq, Eq)]
 pub enum Ask {
     Stay,
     Auto,
     Fixed(u8),
 }
 
-// The ranges with what is asked of the voltage.
-fn v_asked(ask: Ask, before: Ranges) -> Ranges
-    ensures { result ≡ v_asked ask before }
+// The range of one channel, and whether it is found by itself.
+#[derive(Clone, Copy)]
+struct Channel {
+    range: u8,
+    auto: bool,
+}
+
+// One channel with what is asked of it; `most` is its highest range.
+#[tactic(auto, unfolding(crate::specs::Ranges::asked))]
+fn asked(ask: Ask, most: u8, before: Channel) -> Channel
+    ensures { result ≡ asked ask most before }
 {
     match ask {
         Ask::Stay => before,
-        Ask::Auto => {
-            let mut after = before;
-            after.v_auto = true;
-            after
-        }
-        Ask::Fixed(r) => {
-            let vr = at_most(3, r);
-            let mut after = before;
-            after.v_auto = false;
-            after.vr = vr;
-            after
-        }
+        Ask::Auto => Channel {
+            auto: true,
+            range: before.range,
+        },
+        Ask::Fixed(range) => Channel {
+            auto: false,
+            range: range.min(most),
+        },
     }
 }
 
-// The ranges with what is asked of the current.
-fn i_asked(ask: Ask, before: Ranges) -> Ranges
-    ensures { result ≡ i_asked ask before }
+// The ranges with what is asked of the voltage and of the current.
+#[tactic(auto, unfolding(crate::specs::Ranges::ranges_asked))]
+fn ranges_asked(v: Ask, i: Ask, before: Ranges) -> Ranges
+    ensures { result ≡ ranges_asked v i before }
 {
-    match ask {
-        Ask::Stay => before,
-        Ask::Auto => {
-            let mut after = before;
-            after.i_auto = true;
-            after
-        }
-        Ask::Fixed(r) => {
-            let ik = at_most(5, r);
-            let mut after = before;
-            after.i_auto = false;
-            after.ik = ik;
-            after
-        }
+    let voltage = Channel {
+        range: before.vr,
+        auto: before.v_auto,
+    };
+    let current = Channel {
+        range: before.ik,
+        auto: before.i_auto,
+    };
+    let voltage = asked(v, 3, voltage);
+    let current = asked(i, 5, current);
+    Ranges {
+        vr: voltage.range,
+        ik: current.range,
+        v_auto: voltage.auto,
+        i_auto: current.auto,
     }
 }
 
 // What is barred: nothing any longer where the current is named.
-fn barred_asked(ask: Ask, before: u8) -> u8
-    ensures { result ≡ barred_asked ask before }
+#[tactic(auto, unfolding(crate::specs::Ranges::barred_asked))]
+fn barred_asked(i: Ask, before: u8) -> u8
+    ensures { result ≡ barred_asked i before }
 {
-    match ask {
+    match i {
         Ask::Stay => before,
-        Ask::Auto => 0,
-        Ask::Fixed(_) => 0,
+        _ => 0,
     }
 }
 
 // The channel that is kept: the voltage where its range is the same, else the current where its is, else
 // none.
+#[tactic(auto, unfolding(crate::specs::Ranges::keep_of))]
 fn keep_of(found: Ranges, ranges: Ranges) -> Keep
     ensures { result ≡ keep_of found ranges }
 {
     if ranges.vr == found.vr {
-        return Keep::Voltage;
+        Keep::Voltage
+    } else if ranges.ik == found.ik {
+        Keep::Current
+    } else {
+        Keep::Nothing
     }
-    if ranges.ik == found.ik {
-        return Keep::Current;
-    }
-    Keep::Nothing
-}
-
-// Whether both ranges are the same.
-fn same_ranges(found: Ranges, ranges: Ranges) -> bool
-    ensures { result ≡ same_ranges found ranges }
-{
-    if ranges.vr == found.vr {
-        return ranges.ik == found.ik;
-    }
-    false
 }
 
 // Applied while on, where a range has changed.
+#[tactic(auto, unfolding(crate::specs::Ranges::ranges_set))]
 fn ranges_set(before: Pw, time: u64, v: Ask, i: Ask) -> Step
     ensures { result ≡ ranges_set before time v i }
 {
     let found = before.ranges;
-    let ranges = i_asked(i, v_asked(v, found));
-    let barred = barred_asked(i, before.barred);
     let mut after = before;
-    after.ranges = ranges;
-    after.barred = barred;
-    if !before.mode.on {
-        return done(after);
+    after.ranges = ranges_asked(v, i, found);
+    after.barred = barred_asked(i, before.barred);
+    if before.mode.on && (after.ranges.vr, after.ranges.ik) != (found.vr, found.ik) {
+        return applied(keep_of(found, after.ranges), after, time);
     }
-    if same_ranges(found, ranges) {
-        return done(after);
-    }
-    applied(keep_of(found, ranges), after, time)
+    done(after)
 }
 
 /// What is asked of each range: a running job ends first, also where nothing is asked.
+#[tactic(auto, unfolding(crate::specs::Ranges::set_ranges))]
 pub fn set_ranges(before: Pw, time: u64, v: Ask, i: Ask) -> Step
     ensures { result ≡ set_ranges before time v i }
 {
-    if late(time) {
-        return refused_with(Refusal::Late, before);
-    }
-    ranges_set(aborted(before), time, v, i)
+    ending_job(before, time, |meter| ranges_set(meter, time, v, i))
 }

@@ -1,9 +1,10 @@
 //! The orders that start something: zero job, gain job, phase start; energy reset, run and settings.
 ghost use Rattle.std.specs.Prelude.{◌≡◌};
 ghost use Rattle.steps.specs.declared.place.Kind.TheVariants.{Zero, Gain};
-ghost use Rattle.orders.specs.Starts.{start_job, phase_start, energy_reset, set_run, set_settings};
+ghost use Rattle.orders.specs.Answer.{told};
+ghost use Rattle.orders.specs.Starts.{start_tried, start_job, phase_start, energy_reset, set_run, set_settings};
 
-use crate::answer::{Step, done, late, marked, refused_with};
+use crate::answer::{Step, done, in_time, marked, refused_with, told};
 use figures::tally::Tally;
 use jobs::whole::{job_start, job_turned_away};
 use phase::cal_start;
@@ -11,26 +12,34 @@ use refusals::Refusal;
 use state::{Pw, Settings, Stamp};
 use steps::place::Kind;
 
-// A job's start. In the alternating method it is refused, and the meter notes that.
+// A job's start, or its refusal.
+#[tactic(auto, unfolding(crate::specs::Starts::start_tried))]
+fn try_job(before: Pw, time: u64, kind: Kind) -> Result<Step, Refusal>
+    ensures { result ≡ start_tried before time kind }
+{
+    in_time(time)?;
+    if !before.mode.on {
+        return Err(Refusal::Off);
+    }
+    if before.job.job != 0 {
+        return Err(Refusal::Busy);
+    }
+    if before.mode.alt {
+        return Err(Refusal::Method);
+    }
+    let started = job_start(before, kind, time);
+    Ok(marked(started.pw, started.mark))
+}
+
+// Refused in the alternating method, the meter notes that; otherwise refused it is as it was.
+#[tactic(auto, unfolding(crate::specs::Starts::start_tried, crate::specs::Starts::start_job))]
 fn start_job(before: Pw, time: u64, kind: Kind) -> Step
     ensures { result ≡ start_job before time kind }
 {
-    if late(time) {
-        return refused_with(Refusal::Late, before);
+    match try_job(before, time, kind) {
+        Err(Refusal::Method) => refused_with(Refusal::Method, job_turned_away(before, kind)),
+        outcome => told(outcome, before),
     }
-    if !before.mode.on {
-        return refused_with(Refusal::Off, before);
-    }
-    if before.job.job != 0 {
-        return refused_with(Refusal::Busy, before);
-    }
-    if before.mode.alt {
-        return refused_with(Refusal::Method, job_turned_away(before, kind));
-    }
-    let started = job_start(before, kind, time);
-    let after = started.pw;
-    let mark = started.mark;
-    marked(after, mark)
 }
 
 /// The job that finds the zeros.
@@ -47,40 +56,42 @@ pub fn gain_job(before: Pw, time: u64) -> Step
     start_job(before, time, Kind::Gain)
 }
 
+// The start of a phase calibration, or its refusal.
+#[tactic(auto, unfolding(crate::specs::Starts::phase_start))]
+fn try_phase(before: Pw) -> Result<Step, Refusal>
+    ensures { told result before ≡ phase_start before }
+{
+    if !before.mode.on {
+        return Err(Refusal::Off);
+    }
+    if before.mode.alt || before.mode.dc {
+        return Err(Refusal::Method);
+    }
+    let mut after = before;
+    after.phase_cal = cal_start(before.phase_cal);
+    Ok(done(after))
+}
+
 /// The start of a phase calibration, in a job too.
 pub fn phase_start(before: Pw) -> Step
     ensures { result ≡ phase_start before }
 {
-    if !before.mode.on {
-        return refused_with(Refusal::Off, before);
-    }
-    if before.mode.alt {
-        return refused_with(Refusal::Method, before);
-    }
-    if before.mode.dc {
-        return refused_with(Refusal::Method, before);
-    }
-    let phase_cal = cal_start(before.phase_cal);
-    let mut after = before;
-    after.phase_cal = phase_cal;
-    done(after)
+    told(try_phase(before), before)
 }
 
 /// Energies and counted time begin anew, and the next interval with the next accounted frame.
+#[tactic(auto, unfolding(crate::specs::Starts::energy_reset))]
 pub fn energy_reset(before: Pw) -> Step
     ensures { result ≡ energy_reset before }
 {
-    let tally = Tally::ZERO;
-    let none = Stamp::NONE;
-    let mut clock = before.clock;
-    clock.t_last = none;
     let mut after = before;
-    after.tally = tally;
-    after.clock = clock;
+    after.tally = Tally::ZERO;
+    after.clock.t_last = Stamp::NONE;
     done(after)
 }
 
 /// Whether energy is counted.
+#[tactic(auto, unfolding(crate::specs::Starts::set_run))]
 pub fn set_run(before: Pw, run: bool) -> Step
     ensures { result ≡ set_run before run }
 {
@@ -90,6 +101,7 @@ pub fn set_run(before: Pw, run: bool) -> Step
 }
 
 /// The order `settings`: all five fields, of any bits, on or off, in a job too.
+#[tactic(auto, unfolding(crate::specs::Starts::set_settings))]
 pub fn set_settings(before: Pw, settings: Settings) -> Step
     ensures { result ≡ set_settings before settings }
 {

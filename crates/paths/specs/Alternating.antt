@@ -1,10 +1,11 @@
 -- The alternating method after a result was taken: `poll_power` of the source from `taken` on, where `alt` is true.
 use Rattle.std.specs.Prelude.{true, false, cond, ℕ, ◌%◌, ltb, eqb}
 use Rattle.tables.specs.Constants.{alt_n}
-use Rattle.state.specs.declared.Mode.{Mode}
 use Rattle.state.specs.Counting.{count_up}
-use Rattle.takes.specs.declared.scales.Instrument.{Instrument}
+use Rattle.ranging.specs.declared.autorange.Channel.{Channel}
+use Rattle.ranging.specs.declared.autorange.Channel.TheVariants.{Voltage, Current}
 use Rattle.ranging.specs.Cycle.{alt_switch}
+use Rattle.paths.specs.declared.measuring.Setup.{Setup}
 use Rattle.paths.specs.declared.measuring.Measuring.{Measuring}
 use Rattle.paths.specs.declared.measuring.Outcome.{Outcome}
 use Rattle.paths.specs.Measuring.{goes_on, with_taken, with_cycle, autorange, unless_ranged}
@@ -19,13 +20,17 @@ switched now m =
       ad1_taken = false;
     }
 
+-- an even phase is the voltage's
+abbrev pub channel_in : ℕ → Channel
+channel_in phase = cond (eqb (phase % 2) 0) Voltage Current
+
 -- the phase has its results
-unfoldable pub alt_phase_done : Instrument → Mode → ℕ → Measuring → Outcome
-alt_phase_done w mode now m = unless_ranged m (switched now m) (autorange w mode (eqb (m.cycle.phase % 2) 0) now m)
+unfoldable pub alt_phase_done : Setup → ℕ → Measuring → Outcome
+alt_phase_done s now m = unless_ranged m (switched now m) (autorange s (channel_in m.cycle.phase) now m)
 
 -- `taken += 1; if taken >= ALT_N`
-unfoldable pub alt_next : Instrument → Mode → ℕ → Measuring → Outcome
-alt_next w mode now m =
+unfoldable pub alt_next : Setup → ℕ → Measuring → Outcome
+alt_next s now m =
     let n = count_up m.cycle.taken in
     let counted = with_cycle m (with_taken m.cycle n) in
-    cond (ltb n alt_n) (goes_on counted) (alt_phase_done w mode now counted)
+    cond (ltb n alt_n) (goes_on counted) (alt_phase_done s now counted)

@@ -1,5 +1,5 @@
 -- `pw_cmp_select` of the source: the frequency counter's source and window. The counter itself is left out.
-use Rattle.std.specs.Prelude.{true, false, cond, ℕ, Float}
+use Rattle.std.specs.Prelude.{true, false, cond, ℕ, Float, Option, Some, None}
 use Rattle.std.specs.Float.{nan, binary32}
 use Rattle.std.specs.Float.Ieee.{le, of_bits}
 use Rattle.numbers.specs.Binary32.{◌*f◌, ◌/f◌}
@@ -7,8 +7,6 @@ use Rattle.tables.specs.Bounds.{entry_at}
 use Rattle.tables.specs.Constants.{kv, shunt_ohm, r20_sense, r20_pb4, r21_default}
 use Rattle.tables.specs.Ranges.{iu_ir}
 use Rattle.tables.specs.declared.description.Description.{Description}
-use Rattle.tables.specs.declared.window.Window.{Window}
-use Rattle.tables.specs.declared.window.Window.TheVariants.{NoWindow, R21}
 use Rattle.tables.specs.Window.{cmp_window}
 use Rattle.state.specs.declared.Comparator.{Comparator}
 use Rattle.state.specs.declared.Parts.{Parts}
@@ -36,9 +34,9 @@ abbrev pub no_frequency : Comparator → Comparator
 no_frequency c = record { r20 = c.r20; r21 = c.r21; f_ok = false; cmp_vr = c.cmp_vr }
 
 -- the V tap with its window; else the current on PB4 where its AC part is at least 25 mV; else no frequency
-unfoldable pub chosen : Window → Float → Comparator → Comparator
-chosen (R21 w) op c = with_frequency r20_sense w c
-chosen NoWindow op c = cond (le least_op op) (with_frequency r20_pb4 r21_default c) (no_frequency c)
+unfoldable pub chosen : Option ℕ → Float → Comparator → Comparator
+chosen (Some w) op c = with_frequency r20_sense w c
+chosen None op c = cond (le least_op op) (with_frequency r20_pb4 r21_default c) (no_frequency c)
 
 -- only once voltage and current are measured
 unfoldable pub cmp_select : Instrument → Ranges → ℕ → Parts → Comparator → Comparator

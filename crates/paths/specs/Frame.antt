@@ -1,36 +1,36 @@
 -- A frame outside a job: `poll_power` of the source without its job, its ring (specs/Ring.antt) and its frequency counter, up to `pw_vals` and `pw_account`.
-use Rattle.std.specs.Prelude.{cond, ℕ, ◌-◌, ltb}
+use Rattle.std.specs.Prelude.{cond, ℕ, ltb, Option, Some, None}
 use Rattle.codes.specs.declared.Codes.{Codes}
+use Rattle.codes.specs.declared.Frame.{Frame}
 use Rattle.codes.specs.Flags.{holds_rms_lpf}
-use Rattle.state.specs.declared.Mode.{Mode}
-use Rattle.takes.specs.declared.scales.Instrument.{Instrument}
-use Rattle.takes.specs.declared.take.Taken.{Taken}
+use Rattle.takes.specs.declared.take.Measured.{Measured}
 use Rattle.takes.specs.Take.{take, take_alt}
+use Rattle.paths.specs.declared.measuring.Setup.{Setup}
 use Rattle.paths.specs.declared.measuring.Measuring.{Measuring}
 use Rattle.paths.specs.declared.measuring.Outcome.{Outcome}
-use Rattle.paths.specs.Measuring.{ends, with_skip, with_cycle, measured_in, with_measured}
+use Rattle.paths.specs.Measuring.{ends, drops, measured_in, with_measured}
 use Rattle.paths.specs.MethodB.{b_next}
 use Rattle.paths.specs.Alternating.{alt_next}
 use Rattle.paths.specs.Dc.{dc_frame}
 
 -- `if alt { pw_take_alt(rms, lpf) } else { pw_take(stat, rms, lpf) }`
-abbrev pub take_by : Instrument → Mode → Codes → Measuring → Taken
-take_by w mode codes m =
-    cond mode.alt (take_alt w m.ranges m.cycle.phase codes (measured_in m)) (take w m.ranges m.cycle.stat codes (measured_in m))
+unfoldable pub take_by : Setup → Codes → Measuring → Option Measured
+take_by s codes m =
+    cond s.mode.alt (take_alt s.with m.ranges m.cycle.phase codes (measured_in m)) (take s.with m.ranges m.cycle.stat codes (measured_in m))
 
 -- after a result was taken
-abbrev pub next_by : Instrument → Mode → ℕ → Measuring → Outcome
-next_by w mode now m = cond mode.alt (alt_next w mode now m) (b_next w mode now m)
+unfoldable pub next_by : Setup → ℕ → Measuring → Outcome
+next_by s now m = cond s.mode.alt (alt_next s now m) (b_next s now m)
+
+-- a result turned down ends the frame, and nothing changes
+abbrev pub taken_by : Setup → ℕ → Measuring → Option Measured → Outcome
+taken_by s now m None = ends m
+taken_by s now m (Some t) = next_by s now (with_measured m t)
 
 -- RMS and LPF being ready. `disc = skip > 0`: of a dropped result there is only the count here
-unfoldable pub method_frame : Instrument → Mode → Codes → ℕ → Measuring → Outcome
-method_frame w mode codes now m =
-    let t = take_by w mode codes m in
-    cond (ltb 0 m.cycle.skip) (ends (with_cycle m (with_skip m.cycle (m.cycle.skip - 1))))
-    (cond t.accepted (next_by w mode now (with_measured m t.measured)) (ends m))
+unfoldable pub method_frame : Setup → Frame → Measuring → Outcome
+method_frame s f m = cond (ltb 0 m.cycle.skip) (drops m) (taken_by s f.now m (take_by s f.codes m))
 
 -- DC coupling comes before the method; both methods need RMS and LPF
-unfoldable pub frame : Instrument → Mode → ℕ → Codes → ℕ → Measuring → Outcome
-frame w mode flags codes now m =
-    cond mode.dc (dc_frame w mode flags codes now m)
-    (cond (holds_rms_lpf flags) (method_frame w mode codes now m) (ends m))
+unfoldable pub frame : Setup → Frame → Measuring → Outcome
+frame s f m = cond s.mode.dc (dc_frame s f m) (cond (holds_rms_lpf f.flags) (method_frame s f m) (ends m))

@@ -4,6 +4,5 @@ pub mod Measuring
 pub mod MethodB
 pub mod Alternating
 pub mod Dc
-pub mod Divided
 pub mod Frame
 pub mod Whole

@@ -1,14 +1,14 @@
--- What the path of a frame outside a job may change, up to `pw_vals`, and what it answers: rule 1 of docs/ARCHITECTURE.md. It also reads the description, the words, the corrections and the mode; nothing else of the meter is handed to it. What the ring notes follows from the frame and what it answers (specs/Ring.antt).
-use Rattle.std.specs.Prelude.{Bool, true, false, cond, ℕ}
+-- What the path of a frame outside a job may change, up to `pw_vals`, and what it answers: rule 1 of docs/ARCHITECTURE.md. It also reads its setup: the description, the words, the corrections and the mode; nothing else of the meter is handed to it. What the ring notes follows from the frame and what it answers (specs/Ring.antt).
+use Rattle.std.specs.Prelude.{true, false, ℕ, ◌-◌, Option, Some, None}
 use Rattle.state.specs.declared.Comparator.{Comparator}
 use Rattle.state.specs.declared.Cycle.{Cycle}
-use Rattle.state.specs.declared.Mode.{Mode}
 use Rattle.state.specs.Fresh.{no_time}
-use Rattle.takes.specs.declared.scales.Instrument.{Instrument}
 use Rattle.takes.specs.declared.take.Measured.{Measured}
 use Rattle.ranging.specs.declared.autorange.Ranging.{Ranging}
 use Rattle.ranging.specs.declared.autorange.Ranged.{Ranged}
-use Rattle.ranging.specs.Autorange.{autorange_v, autorange_i}
+use Rattle.ranging.specs.declared.autorange.Channel.{Channel}
+use Rattle.ranging.specs.Autorange as ranging
+use Rattle.paths.specs.declared.measuring.Setup.{Setup}
 use Rattle.paths.specs.declared.measuring.Measuring.{Measuring}
 use Rattle.paths.specs.declared.measuring.Outcome.{Outcome}
 
@@ -42,6 +42,10 @@ abbrev pub with_comparator : Measuring → Comparator → Measuring
 with_comparator m k =
     record { ranges = m.ranges; barred = m.barred; cycle = m.cycle; parts = m.parts; phase_cal = m.phase_cal; comparator = k }
 
+-- a dropped result: the frame ends, with one less to drop
+unfoldable pub drops : Measuring → Outcome
+drops m = ends (with_cycle m (with_skip m.cycle (m.cycle.skip - 1)))
+
 -- an AD1 result was taken
 abbrev pub with_ad1 : Outcome → Outcome
 with_ad1 o = record { measuring = o.measuring; mark = o.mark; to_values = o.to_values; ad1_taken = true }
@@ -67,11 +71,9 @@ with_measured m t =
 unfoldable pub ranging_in : Measuring → Ranging
 ranging_in m = record { ranges = m.ranges; barred = m.barred; cycle = m.cycle; comparator = m.comparator }
 
--- `pw_autorange(clk, v)`
-unfoldable pub autorange : Instrument → Mode → Bool → ℕ → Measuring → Ranged
-autorange w mode v now m =
-    cond v (autorange_v w.description mode m.parts (ranging_in m) now)
-    (autorange_i w.description mode m.parts (ranging_in m) now)
+-- `pw_autorange(clk, v)`, v where it is the voltage's
+unfoldable pub autorange : Setup → Channel → ℕ → Measuring → Option Ranged
+autorange s channel now m = ranging.autorange channel s.with.description s.mode m.parts (ranging_in m) now
 
 -- a range was applied: its mark, and no values
 unfoldable pub ranged_to : Measuring → Ranged → Outcome
@@ -85,11 +87,12 @@ ranged_to m r =
         phase_cal = m.phase_cal;
         comparator = r.ranging.comparator;
       };
-      mark = r.mark;
+      mark = record { set = true; at = r.deadline };
       to_values = false;
       ad1_taken = false;
     }
 
 -- a range that was applied ends the frame
-abbrev pub unless_ranged : Measuring → Outcome → Ranged → Outcome
-unless_ranged m otherwise r = cond r.mark.set (ranged_to m r) otherwise
+abbrev pub unless_ranged : Measuring → Outcome → Option Ranged → Outcome
+unless_ranged m otherwise None = otherwise
+unless_ranged m otherwise (Some r) = ranged_to m r

@@ -1,9 +1,11 @@
 -- Method B after a result was taken: `poll_power` of the source from `st` on, where `alt` is false.
 use Rattle.std.specs.Prelude.{cond, ℕ, eqb}
 use Rattle.tables.specs.Constants.{r34_xy, r34_yy}
-use Rattle.state.specs.declared.Mode.{Mode}
 use Rattle.takes.specs.declared.scales.Instrument.{Instrument}
+use Rattle.ranging.specs.declared.autorange.Channel.{Channel}
+use Rattle.ranging.specs.declared.autorange.Channel.TheVariants.{Voltage, Current}
 use Rattle.ranging.specs.Cycle.{advance}
+use Rattle.paths.specs.declared.measuring.Setup.{Setup}
 use Rattle.paths.specs.declared.measuring.Measuring.{Measuring}
 use Rattle.paths.specs.declared.measuring.Outcome.{Outcome}
 use Rattle.paths.specs.Comparator.{cmp_select}
@@ -16,8 +18,12 @@ advanced m = with_cycle m (advance m.cycle)
 unfoldable pub b_unranged : Instrument → Measuring → Outcome
 b_unranged w m = goes_on (advanced (with_comparator m (cmp_select w m.ranges m.cycle.seen m.parts m.comparator)))
 
+-- `v = st == R34_YY`
+abbrev pub channel_of : ℕ → Channel
+channel_of stat = cond (eqb stat r34_yy) Voltage Current
+
 -- XY goes straight to the next phase, XX and YY may change a range first
-unfoldable pub b_next : Instrument → Mode → ℕ → Measuring → Outcome
-b_next w mode now m =
+unfoldable pub b_next : Setup → ℕ → Measuring → Outcome
+b_next s now m =
     cond (eqb m.cycle.stat r34_xy) (goes_on (advanced m))
-    (unless_ranged m (b_unranged w m) (autorange w mode (eqb m.cycle.stat r34_yy) now m))
+    (unless_ranged m (b_unranged s.with m) (autorange s (channel_of m.cycle.stat) now m))

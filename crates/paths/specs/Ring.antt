@@ -1,8 +1,8 @@
 -- The ring. Document 01, of a result that is turned down: "The ring notes it all the same: sixteen latest conversions are kept with the meter, by `ring_k` modulo 16."
-use Rattle.std.specs.Prelude.{Bool, false, cond, ℕ, ◌+◌, ◌%◌, ◌^◌, ltb, ℤ, pos, set}
+use Rattle.std.specs.Prelude.{Bool, false, cond, ℕ, min, ◌+◌, ◌%◌, ◌^◌, ltb, ℤ, pos, set}
 use Rattle.codes.specs.declared.Codes.{Codes}
+use Rattle.codes.specs.declared.Frame.{Frame}
 use Rattle.codes.specs.Flags.{holds_rms_lpf}
-use Rattle.tables.specs.Bounds.{at_most}
 use Rattle.tables.specs.Constants.{ring_n}
 use Rattle.state.specs.declared.Cycle.{Cycle}
 use Rattle.state.specs.declared.Mode.{Mode}
@@ -12,10 +12,10 @@ use Rattle.paths.specs.declared.ring.Raw.{Raw}
 
 -- `now.saturating_sub(t_res).min(u16::MAX)`
 unfoldable pub held_dt : ℕ → ℕ → ℕ
-held_dt now tRes = at_most 65535 (elapsed now tRes)
+held_dt now tRes = min (elapsed now tRes) 65535
 
 -- `ring_k.wrapping_add(1)`
-unfoldable pub next_number : ℕ → ℕ
+abbrev pub next_number : ℕ → ℕ
 next_number k = (k + 1) % 2 ^ 32
 
 -- `ring[ring_k % RING_N] = raw`
@@ -53,7 +53,7 @@ unfoldable pub is_dropped : Mode → Cycle → Bool
 is_dropped mode c = cond mode.dc (ltb 0 c.skip_y) (ltb 0 c.skip)
 
 -- the ring after a frame that came upon the cycle c: a result of RMS and LPF is noted before it is looked at, one of AD1 once it is to be taken
-unfoldable pub ring_after : Ring → Mode → Cycle → ℕ → Codes → ℕ → Bool → Ring
-ring_after r mode c flags codes now ad1Taken =
-    let first = cond (holds_rms_lpf flags) (note_result r now (result_stat mode c) (is_dropped mode c) codes) r in
-    cond ad1Taken (note_current first codes.ad1) first
+unfoldable pub ring_after : Ring → Mode → Cycle → Frame → Bool → Ring
+ring_after r mode c f ad1Taken =
+    let first = cond (holds_rms_lpf f.flags) (note_result r f.now (result_stat mode c) (is_dropped mode c) f.codes) r in
+    cond ad1Taken (note_current first f.codes.ad1) first

@@ -1,15 +1,18 @@
 -- The parts of a whole meter that the path of a frame outside a job reads, and those that it may change.
-use Rattle.std.specs.Prelude.{ℕ}
-use Rattle.codes.specs.declared.Codes.{Codes}
+use Rattle.codes.specs.declared.Frame.{Frame}
 use Rattle.state.specs.declared.Pw.{Pw}
 use Rattle.state.specs.declared.Ring.{Ring}
 use Rattle.takes.specs.declared.scales.Instrument.{Instrument}
+use Rattle.paths.specs.declared.measuring.Setup.{Setup}
 use Rattle.paths.specs.declared.measuring.Measuring.{Measuring}
 use Rattle.paths.specs.declared.measuring.Outcome.{Outcome}
 use Rattle.paths.specs.Ring.{ring_after}
 
 unfoldable pub instrument_in : Pw → Instrument
 instrument_in m = record { description = m.description; calibration = m.calibration; corrections = m.corrections }
+
+unfoldable pub setup_in : Pw → Setup
+setup_in m = record { with = instrument_in m; mode = m.mode }
 
 unfoldable pub measuring_in : Pw → Measuring
 measuring_in m =
@@ -46,5 +49,5 @@ with_measuring m x r =
     }
 
 -- the meter after a path that came to o, with what the ring notes; `t_poll` and the accounting come after it
-abbrev pub with_outcome : Pw → ℕ → Codes → ℕ → Outcome → Pw
-with_outcome m flags codes now o = with_measuring m o.measuring (ring_after m.ring m.mode m.cycle flags codes now o.ad1_taken)
+abbrev pub with_outcome : Pw → Frame → Outcome → Pw
+with_outcome m f o = with_measuring m o.measuring (ring_after m.ring m.mode m.cycle f o.ad1_taken)

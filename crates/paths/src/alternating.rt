@@ -2,22 +2,23 @@
 ghost use Rattle.std.specs.Prelude.{◌≡◌};
 ghost use Rattle.paths.specs.Alternating.{switched, alt_phase_done, alt_next};
 
-use crate::measuring::{Measuring, Outcome, autorange, goes_on, ranged_to};
+use crate::measuring::{Measuring, Outcome, Setup};
+use ranging::autorange::Channel;
 use ranging::cycle::alt_switch;
-use state::{Mode, Stamp, count_up};
+use state::{Stamp, count_up};
 use tables::constants::ALT_N;
-use takes::scales::Instrument;
 
 // No range changed: the other row comes, with a mark, and the frame goes on to the values all the same.
+#[tactic(auto, unfolding(crate::specs::Alternating::switched))]
 fn switched(now: u64, before: Measuring) -> Outcome
     ensures { result ≡ switched now before }
 {
     let next = alt_switch(before.cycle, now);
-    let cycle = next.cycle;
-    let mut after = before;
-    after.cycle = cycle;
     Outcome {
-        measuring: after,
+        measuring: Measuring {
+            cycle: next.cycle,
+            ..before
+        },
         mark: Stamp {
             set: true,
             at: next.deadline,
@@ -28,25 +29,28 @@ fn switched(now: u64, before: Measuring) -> Outcome
 }
 
 // The phase has its results: a range changes, or the other row comes.
-fn alt_phase_done(with: Instrument, mode: Mode, now: u64, before: Measuring) -> Outcome
-    ensures { result ≡ alt_phase_done with mode now before }
+#[tactic(auto, unfolding(crate::specs::Alternating::alt_phase_done))]
+fn alt_phase_done(setup: Setup, now: u64, before: Measuring) -> Outcome
+    ensures { result ≡ alt_phase_done setup now before }
 {
-    let ranged = autorange(with, mode, before.cycle.phase % 2 == 0, now, before);
-    if ranged.mark.set {
-        return ranged_to(before, ranged);
-    }
-    switched(now, before)
+    let channel = if before.cycle.phase % 2 == 0 {
+        Channel::Voltage
+    } else {
+        Channel::Current
+    };
+    before.unless_ranged(setup, channel, now, switched(now, before))
 }
 
 /// One result more in the phase.
-pub(crate) fn alt_next(with: Instrument, mode: Mode, now: u64, before: Measuring) -> Outcome
-    ensures { result ≡ alt_next with mode now before }
+#[tactic(auto, unfolding(crate::specs::Alternating::alt_next))]
+pub(crate) fn alt_next(setup: Setup, now: u64, before: Measuring) -> Outcome
+    ensures { result ≡ alt_next setup now before }
 {
-    let n = count_up(before.cycle.taken);
     let mut after = before;
-    after.cycle.taken = n;
-    if n < ALT_N {
-        return goes_on(after);
+    after.cycle.taken = count_up(before.cycle.taken);
+    if after.cycle.taken < ALT_N {
+        after.goes_on()
+    } else {
+        alt_phase_done(setup, now, after)
     }
-    alt_phase_done(with, mode, now, after)
 }

@@ -1,60 +1,75 @@
 //! A frame outside a job, by its path.
 ghost use Rattle.std.specs.Prelude.{◌≡◌};
-ghost use Rattle.paths.specs.Frame.{method_frame, frame};
+ghost use Rattle.paths.specs.Frame.{take_by, next_by, method_frame, frame};
 
 use crate::alternating::alt_next;
 use crate::dc::dc_frame;
-use crate::measuring::{Measuring, Outcome, ends, measured_in, with_measured};
+use crate::measuring::{Measuring, Outcome, Setup};
 use crate::method_b::b_next;
-use codes::{Codes, holds_rms_lpf};
-use state::Mode;
-use takes::scales::Instrument;
-use takes::take::{take, take_alt};
+use codes::{Codes, Frame, holds_rms_lpf};
+use takes::take::{Measured, take, take_alt};
+
+// The take of the method. None: the result is turned down.
+#[tactic(auto, unfolding(crate::specs::Frame::take_by))]
+fn take_by(setup: Setup, codes: Codes, before: Measuring) -> Option<Measured>
+    ensures { result ≡ take_by setup codes before }
+{
+    let measured = before.measured();
+    if setup.mode.alt {
+        take_alt(
+            setup.with,
+            before.ranges,
+            before.cycle.phase,
+            codes,
+            measured,
+        )
+    } else {
+        take(
+            setup.with,
+            before.ranges,
+            before.cycle.stat,
+            codes,
+            measured,
+        )
+    }
+}
+
+// After a result was taken, by the method.
+#[tactic(auto, unfolding(crate::specs::Frame::next_by))]
+fn next_by(setup: Setup, now: u64, before: Measuring) -> Outcome
+    ensures { result ≡ next_by setup now before }
+{
+    if setup.mode.alt {
+        alt_next(setup, now, before)
+    } else {
+        b_next(setup, now, before)
+    }
+}
 
 // Method B or the alternating method: a dropped result, one turned down, or one taken.
-fn method_frame(with: Instrument, mode: Mode, codes: Codes, now: u64, before: Measuring) -> Outcome
-    ensures { result ≡ method_frame with mode codes now before }
+#[tactic(auto, unfolding(crate::specs::Frame::method_frame))]
+fn method_frame(setup: Setup, frame: Frame, before: Measuring) -> Outcome
+    ensures { result ≡ method_frame setup frame before }
 {
-    let cycle = before.cycle;
-    let skip = cycle.skip;
-    let mut dropped = before;
-    if skip > 0 {
-        let left = skip - 1;
-        dropped.cycle.skip = left;
-        return ends(dropped);
+    if before.cycle.skip > 0 {
+        return before.drops();
     }
-    let measured = measured_in(before);
-    let taken = if mode.alt {
-        take_alt(with, before.ranges, cycle.phase, codes, measured)
-    } else {
-        take(with, before.ranges, cycle.stat, codes, measured)
-    };
-    if taken.accepted {
-        let after = with_measured(before, taken.measured);
-        if mode.alt {
-            return alt_next(with, mode, now, after);
-        }
-        return b_next(with, mode, now, after);
+    match take_by(setup, frame.codes, before) {
+        Some(measured) => next_by(setup, frame.now, before.with_measured(measured)),
+        None => before.ends(),
     }
-    ends(before)
 }
 
 /// DC coupling comes before the method. Both methods need RMS and LPF, or nothing happens.
-pub fn frame(
-    with: Instrument,
-    mode: Mode,
-    flags: u8,
-    codes: Codes,
-    now: u64,
-    before: Measuring,
-) -> Outcome
-    ensures { result ≡ frame with mode flags codes now before }
+#[tactic(auto, unfolding(crate::specs::Frame::frame))]
+pub fn frame(setup: Setup, read: Frame, before: Measuring) -> Outcome
+    ensures { result ≡ frame setup read before }
 {
-    if mode.dc {
-        return dc_frame(with, mode, flags, codes, now, before);
+    if setup.mode.dc {
+        dc_frame(setup, read, before)
+    } else if holds_rms_lpf(read.flags) {
+        method_frame(setup, read, before)
+    } else {
+        before.ends()
     }
-    if holds_rms_lpf(flags) {
-        return method_frame(with, mode, codes, now, before);
-    }
-    ends(before)
 }

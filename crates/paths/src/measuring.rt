@@ -1,11 +1,19 @@
-//! What the path of a frame outside a job may change, and what it answers.
+//! What the path of a frame outside a job reads, what it may change, and what it answers.
 ghost use Rattle.std.specs.Prelude.{◌≡◌};
-ghost use Rattle.paths.specs.Measuring.{ends, goes_on, measured_in, with_measured, ranging_in, autorange, ranged_to};
+ghost use Rattle.paths.specs.Measuring.{ends, goes_on, drops, measured_in, with_measured, ranging_in, ranged_to, unless_ranged, autorange};
 
-use ranging::autorange::{Ranged, Ranging, autorange_i, autorange_v};
+use ranging::autorange::{Channel, Ranged, Ranging};
 use state::{Comparator, Cycle, Mode, Parts, PhaseCal, Ranges, Stamp};
 use takes::scales::Instrument;
 use takes::take::Measured;
+
+/// What a path reads and never changes: what readings are worked out with, and what the meter does.
+#[derive(Clone, Copy)]
+#[repr(C)]
+pub struct Setup {
+    pub with: Instrument,
+    pub mode: Mode,
+}
 
 /// The meter's fields that the path of a frame outside a job may change, but for the ring. What the accounting
 /// changes is not a path's.
@@ -32,106 +40,128 @@ pub struct Outcome {
     pub ad1_taken: bool,
 }
 
-/// The frame ends: no mark, no values.
-pub(crate) fn ends(measuring: Measuring) -> Outcome
-    ensures { result ≡ ends measuring }
-{
-    Outcome {
-        measuring,
-        mark: Stamp::NONE,
-        to_values: false,
-        ad1_taken: false,
+impl Measuring {
+    /// The frame ends: no mark, no values.
+    #[tactic(auto, unfolding(crate::specs::Measuring::ends))]
+    pub(crate) fn ends(self) -> Outcome
+        ensures { result ≡ ends self }
+    {
+        Outcome {
+            measuring: self,
+            mark: Stamp::NONE,
+            to_values: false,
+            ad1_taken: false,
+        }
     }
-}
 
-/// No mark; the frame goes on to the values.
-pub(crate) fn goes_on(measuring: Measuring) -> Outcome
-    ensures { result ≡ goes_on measuring }
-{
-    Outcome {
-        measuring,
-        mark: Stamp::NONE,
-        to_values: true,
-        ad1_taken: false,
+    /// No mark; the frame goes on to the values.
+    #[tactic(auto, unfolding(crate::specs::Measuring::goes_on))]
+    pub(crate) fn goes_on(self) -> Outcome
+        ensures { result ≡ goes_on self }
+    {
+        Outcome {
+            measuring: self,
+            mark: Stamp::NONE,
+            to_values: true,
+            ad1_taken: false,
+        }
     }
-}
 
-/// What the takes may change.
-pub(crate) fn measured_in(measuring: Measuring) -> Measured
-    ensures { result ≡ measured_in measuring }
-{
-    let parts = measuring.parts;
-    let phase_cal = measuring.phase_cal;
-    Measured {
-        parts,
-        seen: measuring.cycle.seen,
-        phase_cal,
+    /// A dropped result: the frame ends, with one less to drop.
+    #[tactic(auto, unfolding(crate::specs::Measuring::drops))]
+    pub(crate) fn drops(self) -> Outcome
+        ensures { result ≡ drops self }
+    {
+        let mut dropped = self;
+        dropped.cycle.skip = self.cycle.skip.saturating_sub(1);
+        dropped.ends()
     }
-}
 
-pub(crate) fn with_measured(before: Measuring, measured: Measured) -> Measuring
-    ensures { result ≡ with_measured before measured }
-{
-    let parts = measured.parts;
-    let phase_cal = measured.phase_cal;
-    let seen = measured.seen;
-    let mut after = before;
-    after.parts = parts;
-    after.phase_cal = phase_cal;
-    after.cycle.seen = seen;
-    after
-}
-
-// What an autorange may change.
-fn ranging_in(measuring: Measuring) -> Ranging
-    ensures { result ≡ ranging_in measuring }
-{
-    let ranges = measuring.ranges;
-    let cycle = measuring.cycle;
-    let comparator = measuring.comparator;
-    Ranging {
-        ranges,
-        barred: measuring.barred,
-        cycle,
-        comparator,
+    /// What the takes may change.
+    #[tactic(auto, unfolding(crate::specs::Measuring::measured_in))]
+    pub(crate) fn measured(self) -> Measured
+        ensures { result ≡ measured_in self }
+    {
+        Measured {
+            parts: self.parts,
+            seen: self.cycle.seen,
+            phase_cal: self.phase_cal,
+        }
     }
-}
 
-/// The autorange of the voltage, or of the current (the source's `pw_autorange`).
-pub(crate) fn autorange(
-    with: Instrument,
-    mode: Mode,
-    v: bool,
-    now: u64,
-    before: Measuring,
-) -> Ranged
-    ensures { result ≡ autorange with mode v now before }
-{
-    let ranging = ranging_in(before);
-    if v {
-        return autorange_v(with.description, mode, before.parts, ranging, now);
+    #[tactic(auto, unfolding(crate::specs::Measuring::with_measured))]
+    pub(crate) fn with_measured(self, measured: Measured) -> Measuring
+        ensures { result ≡ with_measured self measured }
+    {
+        Measuring {
+            parts: measured.parts,
+            phase_cal: measured.phase_cal,
+            cycle: Cycle {
+                seen: measured.seen,
+                ..self.cycle
+            },
+            ..self
+        }
     }
-    autorange_i(with.description, mode, before.parts, ranging, now)
-}
 
-/// A range was applied: its mark, and no values.
-pub(crate) fn ranged_to(before: Measuring, ranged: Ranged) -> Outcome
-    ensures { result ≡ ranged_to before ranged }
-{
-    let ranges = ranged.ranging.ranges;
-    let barred = ranged.ranging.barred;
-    let cycle = ranged.ranging.cycle;
-    let comparator = ranged.ranging.comparator;
-    let mark = ranged.mark;
-    let mut after = before;
-    after.ranges = ranges;
-    after.barred = barred;
-    after.cycle = cycle;
-    after.comparator = comparator;
-    Outcome {
-        measuring: after,
-        mark,
-        to_values: false,
-        ad1_taken: false,
+    // What an autorange may change.
+    #[tactic(auto, unfolding(crate::specs::Measuring::ranging_in))]
+    fn ranging(self) -> Ranging
+        ensures { result ≡ ranging_in self }
+    {
+        Ranging {
+            ranges: self.ranges,
+            barred: self.barred,
+            cycle: self.cycle,
+            comparator: self.comparator,
+        }
+    }
+
+    // A range was applied: its mark, and no values.
+    #[tactic(auto, unfolding(crate::specs::Measuring::ranged_to))]
+    fn ranged_to(self, ranged: Ranged) -> Outcome
+        ensures { result ≡ ranged_to self ranged }
+    {
+        Outcome {
+            measuring: Measuring {
+                ranges: ranged.ranging.ranges,
+                barred: ranged.ranging.barred,
+                cycle: ranged.ranging.cycle,
+                comparator: ranged.ranging.comparator,
+                ..self
+            },
+            mark: Stamp {
+                set: true,
+                at: ranged.deadline,
+            },
+            to_values: false,
+            ad1_taken: false,
+        }
+    }
+
+    // The autorange of a channel (the source's `pw_autorange`).
+    #[tactic(auto, unfolding(crate::specs::Measuring::autorange))]
+    fn autorange(self, setup: Setup, channel: Channel, now: u64) -> Option<Ranged>
+        ensures { result ≡ autorange setup channel now self }
+    {
+        let description = setup.with.description;
+        let ranging = self.ranging();
+        ranging::autorange::autorange(channel, description, setup.mode, self.parts, ranging, now)
+    }
+
+    /// A range that is applied ends the frame; else this comes.
+    pub(crate) fn unless_ranged(
+        self,
+        setup: Setup,
+        channel: Channel,
+        now: u64,
+        otherwise: Outcome,
+    ) -> Outcome
+        ensures { result ≡ unless_ranged self otherwise (autorange setup channel now self) }
+    {
+        match self.autorange(setup, channel, now) {
+            Some(ranged) => self.ranged_to(ranged),
+            None => otherwise,
+        }
     }
 }

@@ -3,44 +3,38 @@ ghost use Rattle.std.specs.Prelude.{◌≡◌};
 ghost use Rattle.paths.specs.MethodB.{b_unranged, b_next};
 
 use crate::comparator::cmp_select;
-use crate::measuring::{Measuring, Outcome, autorange, goes_on, ranged_to};
+use crate::measuring::{Measuring, Outcome, Setup};
+use ranging::autorange::Channel;
 use ranging::cycle::advance;
-use state::Mode;
 use tables::constants::{R34_XY, R34_YY};
 use takes::scales::Instrument;
 
 // No range changed: the comparator's choice, and the next phase.
+#[tactic(auto, unfolding(crate::specs::MethodB::b_unranged))]
 fn b_unranged(with: Instrument, before: Measuring) -> Outcome
     ensures { result ≡ b_unranged with before }
 {
-    let ranges = before.ranges;
-    let comparator = cmp_select(
-        with,
-        ranges,
-        before.cycle.seen,
-        before.parts,
-        before.comparator,
-    );
-    let cycle = advance(before.cycle);
-    let mut after = before;
-    after.comparator = comparator;
-    after.cycle = cycle;
-    goes_on(after)
+    let seen = before.cycle.seen;
+    Measuring {
+        comparator: cmp_select(with, before.ranges, seen, before.parts, before.comparator),
+        cycle: advance(before.cycle),
+        ..before
+    }
+    .goes_on()
 }
 
 /// Only XX and YY may change a range or the comparator.
-pub(crate) fn b_next(with: Instrument, mode: Mode, now: u64, before: Measuring) -> Outcome
-    ensures { result ≡ b_next with mode now before }
+#[tactic(auto, unfolding(crate::specs::MethodB::b_next))]
+pub(crate) fn b_next(setup: Setup, now: u64, before: Measuring) -> Outcome
+    ensures { result ≡ b_next setup now before }
 {
-    let cycle = advance(before.cycle);
-    let mut after = before;
-    if before.cycle.stat == R34_XY {
-        after.cycle = cycle;
-        return goes_on(after);
-    }
-    let ranged = autorange(with, mode, before.cycle.stat == R34_YY, now, before);
-    if ranged.mark.set {
-        return ranged_to(before, ranged);
-    }
-    b_unranged(with, before)
+    let channel = match before.cycle.stat {
+        R34_XY => {
+            let cycle = advance(before.cycle);
+            return Measuring { cycle, ..before }.goes_on();
+        }
+        R34_YY => Channel::Voltage,
+        _ => Channel::Current,
+    };
+    before.unless_ranged(setup, channel, now, b_unranged(setup.with, before))
 }

@@ -10,48 +10,49 @@ use lib.Signed.{lt_z}
 use lib.Ieee.{Float, nan, inf, of_bits, round, add, sub, neg, lt, le, eq, to_signed}
 use mir.Syntax.{w8}
 use mir.Val.{SFits}
+use Rattle.std.specs.Prelude.{Result, Ok, Err}
+use Rattle.std.specs.Result.{result_unwrap_or}
 use Rattle.numbers.specs.Binary32.{is_finite}
 use Rattle.numbers.specs.Convert.{half_away}
 use Rattle.numbers.specs.Decimal.{decimal, minus_decimal}
 use Rattle.tables.specs.Bounds.{within}
 use Rattle.tables.specs.Constants.{cal_ok}
 use Rattle.state.specs.declared.PhaseCal.{PhaseCal}
-use Rattle.phase.specs.declared.CalOutcome.{CalOutcome}
-use Rattle.phase.specs.declared.CalOutcome.TheVariants.{Steps, Flat, Range}
+use Rattle.phase.specs.declared.CalError.{CalError}
+use Rattle.phase.specs.declared.CalError.TheVariants.{Flat, Range}
 use Rattle.phase.specs.declared.PhaseStep.{PhaseStep}
-use Rattle.phase.specs.Phase.{most_steps, cal_outcome, cal_number, cal_steps, cal_off, trial_steps, not_reactive, on_trial, finished, too_active, null_of, round_mean, round_ended, round_full, cal_accounted}
+use Rattle.phase.specs.Phase.{most_steps, cal_outcome, cal_number, cal_off, trial_steps, not_reactive, on_trial, finished, too_active, null_of, round_mean, round_ended, round_full, cal_accounted}
 use Rattle.numbers.proofs.Cases.{either}
 use Rattle.phase.proofs.Bound.{half_away_law}
 use Rattle.phase.proofs.Trial.{down_fits, up_fits}
 
 -- ---- document 01's row of `cal_outcome`: "127.49; 127.5; infinite" gives "127; CAL_RANGE; CAL_FLAT"; and on the other side
 
-pub row : (cal_outcome (decimal 12749 2) ≡ Steps (pos 127)) × (cal_outcome (decimal 1275 1) ≡ Range) × (cal_outcome (inf false) ≡ Flat)
+pub row : (cal_outcome (decimal 12749 2) ≡ Ok (pos 127)) × (cal_outcome (decimal 1275 1) ≡ Err Range) × (cal_outcome (inf false) ≡ Err Flat)
 unfolding cal_outcome is_finite within half_away of_bits round add sub neg lt le eq to_signed
 row = (refl, refl, refl)
 
-pub row_below : (cal_outcome (minus_decimal 12749 2) ≡ Steps (negsuc 126)) × (cal_outcome (minus_decimal 1275 1) ≡ Range) × (cal_outcome (inf true) ≡ Flat) × (cal_outcome nan ≡ Flat)
+pub row_below : (cal_outcome (minus_decimal 12749 2) ≡ Ok (negsuc 126)) × (cal_outcome (minus_decimal 1275 1) ≡ Err Range) × (cal_outcome (inf true) ≡ Err Flat) × (cal_outcome nan ≡ Err Flat)
 unfolding cal_outcome is_finite within half_away of_bits round add sub neg lt le eq to_signed
 row_below = (refl, refl, refl, refl)
 
 -- ---- the steps of an outcome lie from -127 to 127
 
-abbrev InSteps : CalOutcome → Type 0
-InSteps (Steps v) = nat_abs v ≤ 127
-InSteps Flat = Unit {0}
-InSteps Range = Unit {0}
+abbrev InSteps : Result ℤ CalError → Type 0
+InSteps (Ok v) = nat_abs v ≤ 127
+InSteps (Err e) = Unit {0}
 
 in_steps : (s : Float) → InSteps (cal_outcome s)
 unfolding cal_outcome within
 in_steps s = go (is_finite s) (le (neg most_steps) s) (le s most_steps) refl refl
   where
-    go : (f l u : Bool) → is_finite s ≡ f → le (neg most_steps) s ≡ l → InSteps (cond f (cond (l && u) (Steps (to_signed 7 (half_away s))) Range) Flat)
+    go : (f l u : Bool) → is_finite s ≡ f → le (neg most_steps) s ≡ l → InSteps (cond f (cond (l && u) (Ok (to_signed 7 (half_away s))) (Err Range)) (Err Flat))
     go false l u e k = tt
     go true false u e k = tt
     go true true false e k = tt
     go true true true e k = half_away_law s e k
 
-pub steps_in : (s : Float) (v : ℤ) → cal_outcome s ≡ Steps v → nat_abs v ≤ 127
+pub steps_in : (s : Float) (v : ℤ) → cal_outcome s ≡ Ok v → nat_abs v ≤ 127
 steps_in s v e = subst InSteps e (in_steps s)
 
 -- ---- the accounting step leaves all as it was while no calibration runs, and while fewer than 8 are counted
@@ -78,11 +79,9 @@ module _ (c : PhaseCal) (req : Bool) where
 abbrev Restored : PhaseCal → ℤ → Type 0
 Restored a s = a.cal ≡ 0 → (a.cal_res ≡ cal_ok → ⊥) → a.sph ≡ s
 
-not_ok : (o : CalOutcome) (s0 : ℤ) → (cal_number o ≡ cal_ok → ⊥) → cal_steps o s0 ≡ s0
-unfolding cal_number cal_steps
-not_ok (Steps v) s0 n = absurd (n refl)
-not_ok Flat s0 n = refl
-not_ok Range s0 n = refl
+not_ok : (o : Result ℤ CalError) (s0 : ℤ) → (cal_number o ≡ cal_ok → ⊥) → result_unwrap_or o s0 ≡ s0
+not_ok (Ok v) s0 n = absurd (n refl)
+not_ok (Err e) s0 n = refl
 
 module _ (c : PhaseCal) (req : Bool) where
   abbrev step : Bool → Bool → PhaseStep

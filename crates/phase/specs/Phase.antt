@@ -1,5 +1,6 @@
 -- The phase calibration: the source's `pw_cal_start`, `cal_outcome`, and the last part of its accounting step. `cal` is 0 while none runs, else the round; any number but 0 and 1 counts as 2.
-use Rattle.std.specs.Prelude.{Bool, true, cond, not, ◌&&◌, ℕ, eqb, leb, ℤ, pos, negsuc, ◌+ℤ◌, Float}
+use Rattle.std.specs.Prelude.{Bool, true, cond, not, ◌&&◌, ℕ, eqb, leb, ℤ, pos, negsuc, ◌+ℤ◌, Float, Result, Ok, Err}
+use Rattle.std.specs.Result.{result_unwrap_or}
 use Rattle.std.specs.Int.Signed.{lt_z}
 use Rattle.std.specs.Float.{nan, binary32}
 use Rattle.std.specs.Float.Ieee.{lt, neg, of_bits, of_int, to_signed}
@@ -8,8 +9,8 @@ use Rattle.numbers.specs.Convert.{half_away}
 use Rattle.tables.specs.Bounds.{within}
 use Rattle.tables.specs.Constants.{cal_run, cal_ok, cal_flat, cal_not_reactive, cal_range, cal_pf_max}
 use Rattle.state.specs.declared.PhaseCal.{PhaseCal}
-use Rattle.phase.specs.declared.CalOutcome.{CalOutcome}
-use Rattle.phase.specs.declared.CalOutcome.TheVariants.{Steps, Flat, Range}
+use Rattle.phase.specs.declared.CalError.{CalError}
+use Rattle.phase.specs.declared.CalError.TheVariants.{Flat, NotReactive, Range}
 use Rattle.phase.specs.declared.PhaseStep.{PhaseStep}
 
 -- ---- the outcome
@@ -19,48 +20,37 @@ abbrev pub most_steps : Float
 most_steps = of_bits binary32 0x42fe_fae1
 
 -- `cal_outcome`: `Err(CAL_FLAT)` where s is not finite, `Err(CAL_RANGE)` outside `-127.49..=127.49`, else `Ok((if s < 0.0 { s - 0.5 } else { s + 0.5 }) as i8)`
-unfoldable pub cal_outcome : Float → CalOutcome
-cal_outcome s = cond (is_finite s) (cond (within (neg most_steps) most_steps s) (Steps (to_signed 7 (half_away s))) Range) Flat
+unfoldable pub cal_outcome : Float → Result ℤ CalError
+cal_outcome s = cond (is_finite s) (cond (within (neg most_steps) most_steps s) (Ok (to_signed 7 (half_away s))) (Err Range)) (Err Flat)
+
+-- `CAL_FLAT`, `CAL_NOT_REACTIVE` and `CAL_RANGE`
+abbrev pub error_number : CalError → ℕ
+error_number Flat = cal_flat
+error_number NotReactive = cal_not_reactive
+error_number Range = cal_range
 
 -- the number of each case: `Ok(v) => (v, CAL_OK)`, and the `e` of `Err(e) => (pw.cal_s0, e)`
-unfoldable pub cal_number : CalOutcome → ℕ
-cal_number (Steps v) = cal_ok
-cal_number Flat = cal_flat
-cal_number Range = cal_range
-
--- the phase step of each case: the `v` of `Ok(v) => (v, CAL_OK)`, and s0, `pw.cal_s0`, in `Err(e) => (pw.cal_s0, e)`
-unfoldable pub cal_steps : CalOutcome → ℤ → ℤ
-cal_steps (Steps v) s0 = v
-cal_steps Flat s0 = s0
-cal_steps Range s0 = s0
+abbrev pub cal_number : Result ℤ CalError → ℕ
+cal_number (Ok v) = cal_ok
+cal_number (Err e) = error_number e
 
 -- ---- start and stop
 
 -- `pw_cal_start`: `cal = 1; cal_n = 0; cal_acc = 0.0; cal_s0 = sph; cal_res = CAL_RUN`
 unfoldable pub cal_started : PhaseCal → PhaseCal
 cal_started c =
-    record {
-      sph = c.sph;
+    record c {
       cal = 1;
       cal_n = 0;
       cal_acc = zero_f;
       cal_s0 = c.sph;
-      cal_pa = c.cal_pa;
       cal_res = cal_run;
     }
 
 -- Document 01: "A job start sets `cal` to 0 and leaves `sph` as it is"
 unfoldable pub cal_off : PhaseCal → PhaseCal
 cal_off c =
-    record {
-      sph = c.sph;
-      cal = 0;
-      cal_n = c.cal_n;
-      cal_acc = c.cal_acc;
-      cal_s0 = c.cal_s0;
-      cal_pa = c.cal_pa;
-      cal_res = c.cal_res;
-    }
+    record c { cal = 0 }
 
 -- ---- a round's end
 
@@ -83,40 +73,33 @@ null_of c m = cond (lt least_slope (abs_of (slope_of c m))) (of_int binary32 c.c
 -- each end of a round has `cal_n = 0; cal_acc = 0.0`; here also `cal = 0; cal_res = CAL_NOT_REACTIVE`
 unfoldable pub not_reactive : PhaseCal → PhaseCal
 not_reactive c =
-    record {
-      sph = c.sph;
+    record c {
       cal = 0;
       cal_n = 0;
       cal_acc = zero_f;
-      cal_s0 = c.cal_s0;
-      cal_pa = c.cal_pa;
       cal_res = cal_not_reactive;
     }
 
 -- `cal_pa = m; cal = 2`, and `sph` at the trial step
 unfoldable pub on_trial : PhaseCal → Float → PhaseCal
 on_trial c m =
-    record {
+    record c {
       sph = trial_steps c.cal_s0;
       cal = 2;
       cal_n = 0;
       cal_acc = zero_f;
-      cal_s0 = c.cal_s0;
       cal_pa = m;
-      cal_res = c.cal_res;
     }
 
--- `cal = 0`, and `(sph, cal_res)` by `cal_outcome(s)`
+-- `cal = 0`, and `(sph, cal_res)` by `cal_outcome(s)`: the `v` of `Ok(v) => (v, CAL_OK)`, and `pw.cal_s0` in `Err(e) => (pw.cal_s0, e)`
 unfoldable pub finished : PhaseCal → Float → PhaseCal
 finished c m =
     let outcome = cal_outcome (null_of c m) in
-    record {
-      sph = cal_steps outcome c.cal_s0;
+    record c {
+      sph = result_unwrap_or outcome c.cal_s0;
       cal = 0;
       cal_n = 0;
       cal_acc = zero_f;
-      cal_s0 = c.cal_s0;
-      cal_pa = c.cal_pa;
       cal_res = cal_number outcome;
     }
 

@@ -7,7 +7,7 @@ ghost use Rattle.host.specs.Stepped.{ask_of, host_step, host_made};
 use host::stepped::{HostMade, HostStep, ask_of, host_done, host_made, host_refused, host_step};
 use jobs::whole::job_poll;
 use meter::frame::{Opened, after_measurement, measure, open_frame};
-use orders::answer::Reading;
+use orders::answer::{Answer, Reading};
 use refusals::Refusal;
 use state::{Pw, Settings};
 use tables::description::Description;
@@ -94,29 +94,39 @@ pub fn pw_reapply(meter: Pw, time: u64) -> HostStep
 
 /// As `meter::frame::poll` has it, in one function, and each answer is returned where it is known: a meter that
 /// passes between two functions, or that two branches join on, is copied.
+#[tactic(auto, using(meter::proofs::Entered::poll_opened_law, meter::proofs::Entered::step_refused_law, meter::proofs::Entered::step_done_law), unfolding(meter::specs::Frame::in_job))]
 pub fn pw_frame(meter: Pw, time: u64, flags: u8, bytes: &[u8]) -> HostStep
     ensures { result ≡ host_step (step meter (Frame time flags bytes.now)) }
 {
     let frame = open_frame(meter.mode.on, meter.job.job, time, bytes);
     match frame {
-        Opened::Turned(refusal) => {
+        Err(refusal) => {
             return host_refused(refusal, meter);
         }
-        Opened::InJob(codes) => {
+        Ok(Opened::InJob(codes)) => {
             let polled = job_poll(meter, time, flags, codes);
-            let after = polled.pw;
-            let mark = polled.mark;
-            return host_done(after, mark, polled.used, Reading::NoReading);
+            let answer = Answer {
+                mark: polled.mark,
+                used: polled.used,
+                reading: None,
+            };
+            return host_done(polled.pw, answer);
         }
-        Opened::Outside(codes) => {
-            let made = measure(meter, time, flags, codes);
-            if made.full {
-                return host_refused(Refusal::Full, meter);
+        Ok(Opened::Outside(codes)) => {
+            match measure(meter, time, flags, codes) {
+                Err(refusal) => {
+                    return host_refused(refusal, meter);
+                }
+                Ok(made) => {
+                    let answer = Answer {
+                        mark: made.mark,
+                        used: 0,
+                        reading: made.reading,
+                    };
+                    let after = after_measurement(meter, time, flags, codes, made);
+                    return host_done(after, answer);
+                }
             }
-            let mark = made.mark;
-            let reading = made.reading;
-            let after = after_measurement(meter, time, flags, codes, made);
-            return host_done(after, mark, 0, reading);
         }
     }
 }

@@ -14,11 +14,9 @@ ghost use Rattle.pw.specs.Host.{frame_codes, host_window, host_format};
 pub mod calls;
 pub mod shown;
 
-use codes::Decoded;
 use figures::acc::Acc;
 use formats::format::Format;
 use refusals::Refusal;
-use tables::window::Window;
 
 /// `struct pw_codes`: the refusal's number, and the codes of the frame, 0 where it is refused.
 #[derive(Clone, Copy)]
@@ -31,25 +29,23 @@ pub struct FrameCodes {
 }
 
 /// The codes of the frame in the host's bytes, which are read and not written.
+#[tactic(auto, unfolding(crate::specs::Host::frame_codes))]
 pub fn pw_decode(bytes: &[u8]) -> FrameCodes
     ensures { result ≡ frame_codes (decoded bytes.now) }
 {
-    let answer = codes::decode(bytes);
-    match answer {
-        Decoded::Taken(c) => FrameCodes {
+    match codes::decode(bytes) {
+        Ok(c) => FrameCodes {
             refusal: 0,
             ad1: c.ad1,
             lpf: c.lpf,
             rms: c.rms,
         },
-        Decoded::Refused => {
-            FrameCodes {
-                refusal: refusals::number(Refusal::Frame),
-                ad1: 0,
-                lpf: 0,
-                rms: 0,
-            }
-        }
+        Err(refusal) => FrameCodes {
+            refusal: refusals::number(refusal),
+            ad1: 0,
+            lpf: 0,
+            rms: 0,
+        },
     }
 }
 
@@ -62,16 +58,16 @@ pub struct HostWindow {
 }
 
 /// The comparator's window for a middle of c volts and a swing of a volts.
+#[tactic(auto, unfolding(crate::specs::Host::host_window))]
 pub fn pw_cmp_window(c: f32, a: f32) -> HostWindow
     ensures { result ≡ host_window (cmp_window c a) }
 {
-    let window = tables::window::cmp_window(c, a);
-    match window {
-        Window::NoWindow => HostWindow {
+    match tables::window::cmp_window(c, a) {
+        None => HostWindow {
             found: false,
             r21: 0,
         },
-        Window::R21(code) => HostWindow {
+        Some(code) => HostWindow {
             found: true,
             r21: code,
         },
@@ -82,7 +78,7 @@ pub fn pw_cmp_window(c: f32, a: f32) -> HostWindow
 pub fn pw_row_kind(alt: bool, dc: bool, job: u8, step: u8, job_dc: bool, phase: u8) -> u8
     ensures { result ≡ row_number (row_kind alt dc job step job_dc phase) }
 {
-    tables::row::row_number(tables::row::row_kind(alt, dc, job, step, job_dc, phase))
+    tables::row::row_kind(alt, dc, job, step, job_dc, phase).into()
 }
 
 /// R36 of a signed number of phase steps.
@@ -99,13 +95,14 @@ pub fn pw_acc_fresh() -> Acc
     Acc::ZERO
 }
 
-/// Adds to the host's own accumulator, and answers 0; or 6, full, and it is as it was. The body is that of `Acc::add`.
+/// Adds to the host's own accumulator, and answers 0; or 6, full, and it is as it was.
 pub fn pw_acc_add(acc: &mut Acc, joules: f32) -> u8
     ensures { (result ≡ added_number (add_to acc.old joules)) × (acc.new ≡ added_acc acc.old (add_to acc.old joules)) × ExactAfter acc.old joules result acc.new }
 {
-    let after = figures::acc::after_add(*acc, joules);
-    *acc = after.acc;
-    after.refusal
+    match acc.add(joules) {
+        Ok(()) => 0,
+        Err(refusal) => refusals::number(refusal),
+    }
 }
 
 /// The watt hours of an accumulator.
@@ -124,15 +121,14 @@ pub struct HostFormat {
     pub unit: u8,
 }
 
+#[tactic(auto, unfolding(crate::specs::Host::host_format))]
 fn host_format(f: Format) -> HostFormat
     ensures { result ≡ host_format f }
 {
-    let unit = f.unit;
-    let number = formats::units::unit_number(unit);
     HostFormat {
         number: f.number,
         decimals: f.decimals,
-        unit: number,
+        unit: u8::from(f.unit),
     }
 }
 

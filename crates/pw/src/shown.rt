@@ -9,16 +9,14 @@ ghost use Rattle.host.specs.Shown.{host_vals, host_val, host_readouts, host_part
 ghost use Rattle.host.specs.Ring.{conversion};
 
 use host::ring::HostConversion;
-use host::shown::{
-    HostPartial, HostReadouts, HostVal, HostVals, host_partial, host_readouts, host_val, host_vals,
-};
+use host::shown::{HostPartial, HostReadouts, HostVal, HostVals};
 use state::Pw;
 use values::power_vals::PowerVals;
 
 pub fn pw_vals(meter: Pw) -> HostVals
     ensures { result ≡ host_vals (pw_vals meter) }
 {
-    host_vals(values::vals::pw_vals(meter))
+    HostVals::from(values::vals::pw_vals(meter))
 }
 
 pub fn pw_state(meter: Pw) -> PowerVals
@@ -30,19 +28,19 @@ pub fn pw_state(meter: Pw) -> PowerVals
 pub fn pw_reading_vals(vals: PowerVals) -> HostReadouts
     ensures { result ≡ host_readouts (reading_vals vals) }
 {
-    host_readouts(readouts::readings::reading_vals(vals))
+    HostReadouts::from(readouts::readings::reading_vals(vals))
 }
 
 pub fn pw_energy_val(vals: PowerVals) -> HostVal
     ensures { result ≡ host_val (energy_val vals) }
 {
-    host_val(readouts::readings::energy_val(vals))
+    HostVal::from(readouts::readings::energy_val(vals))
 }
 
 pub fn pw_bt_main(vals: PowerVals) -> HostVal
     ensures { result ≡ host_val (bt_main vals) }
 {
-    host_val(readouts::bluetooth::bt_main(vals))
+    HostVal::from(readouts::bluetooth::bt_main(vals))
 }
 
 pub fn pw_bt_mode_byte(v_auto: bool, vr: u8) -> u8
@@ -54,7 +52,7 @@ pub fn pw_bt_mode_byte(v_auto: bool, vr: u8) -> u8
 pub fn pw_partial(meter: Pw) -> HostPartial
     ensures { result ≡ host_partial (pw_partial meter) }
 {
-    host_partial(readouts::partial::pw_partial(meter))
+    HostPartial::from(readouts::partial::pw_partial(meter))
 }
 
 pub fn pw_integrating(meter: Pw) -> bool
@@ -75,13 +73,12 @@ pub fn pw_row(meter: Pw) -> u8
         meter.job.job_dc,
         meter.cycle.phase,
     );
-    tables::row::row_number(kind)
+    kind.into()
 }
 
 /// One of the sixteen latest conversions, by its age.
 pub fn pw_conversion(meter: Pw, age: u8) -> HostConversion
     ensures { result ≡ conversion meter.ring age }
 {
-    let ring = meter.ring;
-    host::ring::conversion(ring, age)
+    host::ring::conversion(meter.ring, age)
 }

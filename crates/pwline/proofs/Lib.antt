@@ -1,4 +1,2 @@
-pub mod Texts
-pub mod Replies
 pub mod Feeding
 pub mod Stated

@@ -1,7 +1,8 @@
 -- The whole of `pwline`: what it writes for an input, with nothing of how the input is read. proofs/Stated.antt shows that feeding the bytes one by one writes just this.
-use Rattle.std.specs.Prelude.{ℕ, cond, List, [], ◌∷◌, ◌++◌, length, ◌==◌}
+use Rattle.std.specs.Prelude.{ℕ, cond, Some, List, [], ◌∷◌, ◌++◌, length, ◌==◌}
 use Rattle.state.specs.declared.Pw.{Pw}
-use Rattle.pwline.specs.Obeyed.{obeyed, next_number, plain_meter, reply_text}
+use Rattle.pwline.specs.Obeyed.{obeyed, next_number, plain_meter, answer_of}
+use Rattle.pwline.specs.Text.{due_text}
 
 -- the lines of an input, `line` having been read of the first: a line feed ends each; "A last line without a line feed counts as a line"
 unfoldable pub lines_from : List ℕ → List ℕ → List (List ℕ)
@@ -11,7 +12,7 @@ lines_from line (b ∷ input) = cond (b == 10) (line ∷ lines_from [] input) (l
 -- the answers to lines numbered from n on, each line's meter as the last one left it
 unfoldable pub answers_from : ℕ → Pw → List (List ℕ) → List ℕ
 answers_from n m [] = []
-answers_from n m (l ∷ ls) = reply_text n (obeyed m l) ++ answers_from (next_number n) (obeyed m l).pw ls
+answers_from n m (l ∷ ls) = due_text (Some (answer_of n (obeyed m l))) ++ answers_from (next_number n) (obeyed m l).pw ls
 
 unfoldable pub output : List ℕ → List ℕ
 output input = answers_from 1 plain_meter (lines_from [] input)

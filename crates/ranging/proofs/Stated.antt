@@ -1,18 +1,19 @@
 -- What follows from the definitions: which quantities an apply leaves marked, what an autorange leaves as it was, that ranges stay within the tables, that `stat` goes with the phase, and what a mark holds.
-use mathlib.Core.Bool.{Bool, true, false, cond, ◌&&◌, true≢false}
-use mathlib.Core.Path.{◌≡◌, refl}
-use mathlib.Core.Logic.{inl, inr}
-use Prim.Native.Nat.{ℕ, ◌+◌, ◌-◌, ◌/◌, ◌%◌, ◌≤◌}
+use mathlib.Core.Bool.{Bool, true, false, cond, ◌&&◌}
+use mathlib.Core.Path.{◌≡◌, refl, ap}
+use Prim.Native.Nat.{ℕ, ◌+◌, ◌-◌, ◌/◌, ◌%◌, ◌≤◌, min}
 use native.Mathlib.Omega.{arith}
 use borrow.Author.Tests.{ltb-true}
 use lib.Dec.{eqb, ltb, leb}
 use lib.Ieee.{Float, nan, lt}
+use Rattle.std.specs.Prelude.{Option, Some, None, IsSomeAnd}
+use Rattle.std.specs.Option.{ForSome}
 use Rattle.numbers.specs.Binary32.{◌*f◌, ◌/f◌}
 use Rattle.numbers.specs.Root.{hypot_of}
-use Rattle.tables.specs.Bounds.{at_most, entry_at}
+use Rattle.tables.specs.Bounds.{entry_at}
 use Rattle.tables.specs.Constants.{v_lim, i_lim, cycle_at, settle_ms}
 use Rattle.tables.specs.Ranges.{iu_ir}
-use Rattle.tables.proofs.Held.{at_most_law, iu_most}
+use Rattle.tables.proofs.Held.{iu_most}
 use Rattle.tables.specs.declared.calibration.Calibration.{Calibration}
 use Rattle.tables.specs.declared.description.Description.{Description}
 use Rattle.state.specs.declared.Comparator.{Comparator}
@@ -23,17 +24,18 @@ use Rattle.state.specs.declared.Parts.{Parts}
 use Rattle.state.specs.declared.Ranges.{Ranges}
 use Rattle.state.specs.Fresh.{new_pw}
 use Rattle.state.specs.Seen.{bit_of, has_seen}
-use Rattle.state.proofs.Marks.{MarkAt, of_apply}
+use Rattle.state.specs.Counting.{deadline}
 use Rattle.ranging.specs.declared.apply.Keep.{Keep}
 use Rattle.ranging.specs.declared.apply.Keep.TheVariants.{Nothing, Voltage, Current}
 use Rattle.ranging.specs.declared.autorange.Ranging.{Ranging}
-use Rattle.ranging.specs.declared.change.Change.{Change}
-use Rattle.ranging.specs.declared.change.Change.TheVariants.{Stays, To}
+use Rattle.ranging.specs.declared.autorange.Ranged.{Ranged}
+use Rattle.ranging.specs.declared.autorange.Channel.{Channel}
+use Rattle.ranging.specs.declared.autorange.Channel.TheVariants as of
 use Rattle.ranging.specs.Apply.{bit_in, kept_seen, apply}
 use Rattle.ranging.specs.Change.{tenth, step, v_change, is_over, trips, barred_after, least_ik, i_change}
 use Rattle.ranging.specs.Cycle.{advance, alt_switch}
 use Rattle.ranging.specs.Bounds.{InBounds}
-use Rattle.ranging.specs.Autorange.{stays, changed_v, changed_i, by_change_v, by_change_i, autorange_v, autorange_i}
+use Rattle.ranging.specs.Autorange.{other_than, applied, with_ik, by_change_v, by_change_i, asked_v, asked_i, asked, applied_by, autorange}
 
 -- ---- an apply
 module _ (mode : Mode) (vr : ℕ) (cycle : Cycle) (comparator : Comparator) (now : ℕ) where
@@ -69,49 +71,41 @@ module _ (mode : Mode) (vr : ℕ) (cycle : Cycle) (comparator : Comparator) (now
       go true = (refl, refl)
       go false = (refl, refl)
 
--- ---- an autorange
+-- ---- an autorange: what stands after it, which is what stood before where no range is applied
+abbrev pub after : Ranging → Option Ranged → Ranging
+after g None = g
+after g (Some r) = r.ranging
+
 module _ (d : Description) (mode : Mode) (p : Parts) (g : Ranging) (now : ℕ) where
   -- the automatic marks, the barred unit and the current range are as they were
-  pub v_leaves : let after = (autorange_v d mode p g now).ranging in
-      (after.ranges.v_auto ≡ g.ranges.v_auto) × (after.ranges.i_auto ≡ g.ranges.i_auto) × (after.barred ≡ g.barred) × (after.ranges.ik ≡ g.ranges.ik)
-  unfolding autorange_v stays changed_v
+  pub v_leaves : let a = after g (autorange of.Voltage d mode p g now) in
+      (a.ranges.v_auto ≡ g.ranges.v_auto) × (a.ranges.i_auto ≡ g.ranges.i_auto) × (a.barred ≡ g.barred) × (a.ranges.ik ≡ g.ranges.ik)
+  unfolding autorange asked asked_v applied
   v_leaves = go (v_change d g.ranges p)
     where
-      go : (asked : Change) → let after = (by_change_v mode g now asked).ranging in
-          (after.ranges.v_auto ≡ g.ranges.v_auto) × (after.ranges.i_auto ≡ g.ranges.i_auto) × (after.barred ≡ g.barred) × (after.ranges.ik ≡ g.ranges.ik)
-      go Stays = (refl, refl, refl, refl)
-      go (To vr) = (refl, refl, refl, refl)
+      go : (o : Option ℕ) → let a = after g (applied_by (other_than of.Voltage) mode now (by_change_v g o)) in
+          (a.ranges.v_auto ≡ g.ranges.v_auto) × (a.ranges.i_auto ≡ g.ranges.i_auto) × (a.barred ≡ g.barred) × (a.ranges.ik ≡ g.ranges.ik)
+      go None = (refl, refl, refl, refl)
+      go (Some vr) = (refl, refl, refl, refl)
 
   -- the automatic marks and the V range are as they were
-  pub i_leaves : let after = (autorange_i d mode p g now).ranging in
-      (after.ranges.v_auto ≡ g.ranges.v_auto) × (after.ranges.i_auto ≡ g.ranges.i_auto) × (after.ranges.vr ≡ g.ranges.vr)
-  unfolding autorange_i stays changed_i
+  pub i_leaves : let a = after g (autorange of.Current d mode p g now) in
+      (a.ranges.v_auto ≡ g.ranges.v_auto) × (a.ranges.i_auto ≡ g.ranges.i_auto) × (a.ranges.vr ≡ g.ranges.vr)
+  unfolding autorange asked asked_i applied
   i_leaves = go (trips d g.ranges p) (i_change d g.ranges g.barred p)
     where
-      go : (trip : Bool) (asked : Change) → let after = (cond trip (changed_i mode g (barred_after g.barred g.ranges.ik) 5 now) (by_change_i mode g now asked)).ranging in
-          (after.ranges.v_auto ≡ g.ranges.v_auto) × (after.ranges.i_auto ≡ g.ranges.i_auto) × (after.ranges.vr ≡ g.ranges.vr)
-      go true asked = (refl, refl, refl)
-      go false Stays = (refl, refl, refl)
-      go false (To ik) = (refl, refl, refl)
+      go : (trip : Bool) (o : Option ℕ) → let a = after g (applied_by (other_than of.Current) mode now (cond trip (Some (with_ik g (barred_after g.barred g.ranges.ik) 5)) (by_change_i g o))) in
+          (a.ranges.v_auto ≡ g.ranges.v_auto) × (a.ranges.i_auto ≡ g.ranges.i_auto) × (a.ranges.vr ≡ g.ranges.vr)
+      go true o = (refl, refl, refl)
+      go false None = (refl, refl, refl)
+      go false (Some ik) = (refl, refl, refl)
 
-  -- where no mark is set, nothing has changed
-  pub v_unmarked : (autorange_v d mode p g now).mark.set ≡ false → (autorange_v d mode p g now).ranging ≡ g
-  unfolding autorange_v stays changed_v
-  v_unmarked = go (v_change d g.ranges p)
-    where
-      go : (asked : Change) → (by_change_v mode g now asked).mark.set ≡ false → (by_change_v mode g now asked).ranging ≡ g
-      go Stays h = refl
-      go (To vr) h = absurd (true≢false h)
+  -- where no range is applied, nothing has changed
+  pub v_unmarked : autorange of.Voltage d mode p g now ≡ None → after g (autorange of.Voltage d mode p g now) ≡ g
+  v_unmarked none = ap (after g) none
 
-  pub i_unmarked : (autorange_i d mode p g now).mark.set ≡ false → (autorange_i d mode p g now).ranging ≡ g
-  unfolding autorange_i stays changed_i
-  i_unmarked = go (trips d g.ranges p) (i_change d g.ranges g.barred p)
-    where
-      go : (trip : Bool) (asked : Change) → let after = cond trip (changed_i mode g (barred_after g.barred g.ranges.ik) 5 now) (by_change_i mode g now asked) in
-          after.mark.set ≡ false → after.ranging ≡ g
-      go true asked h = absurd (true≢false h)
-      go false Stays h = refl
-      go false (To ik) h = absurd (true≢false h)
+  pub i_unmarked : autorange of.Current d mode p g now ≡ None → after g (autorange of.Current d mode p g now) ≡ g
+  i_unmarked none = ap (after g) none
 
 -- ---- a trip: only by hand
 pub auto_never_trips : (d : Description) (r : Ranges) (p : Parts) → r.i_auto ≡ true → trips d r p ≡ false
@@ -120,15 +114,15 @@ auto_never_trips d r p auto = rw auto
 
 -- ---- ranges within the tables stay so, and what is barred is none, mA or uA
 
-abbrev Below : ℕ → Change → Type 0
-Below most Stays = Unit
-Below most (To k) = k ≤ most
+abbrev Below : ℕ → Option ℕ → Type 0
+Below most None = Unit
+Below most (Some k) = k ≤ most
 
 step_below : (over limit m : Float) (k least most : ℕ) → k ≤ most → Below most (step over limit m k least most)
 unfolding step
 step_below over limit m k least most h = go (lt (over *f limit) m) (ltb k most) refl (lt m (tenth *f limit /f over) && ltb least k)
   where
-    go : (up below : Bool) → ltb k most ≡ below → (down : Bool) → Below most (cond (up && below) (To (k + 1)) (cond down (To (k - 1)) Stays))
+    go : (up below : Bool) → ltb k most ≡ below → (down : Bool) → Below most (cond (up && below) (Some (k + 1)) (cond down (Some (k - 1)) None))
     go true true e down = omega (arith, ltb-true k most e)
     go true false e true = omega arith
     go true false e false = tt
@@ -139,7 +133,7 @@ v_below : (d : Description) (r : Ranges) (p : Parts) → r.vr ≤ 3 → Below 3 
 unfolding v_change
 v_below d r p h = go r.v_auto
   where
-    go : (auto : Bool) → Below 3 (cond auto (step d.over (entry_at nan v_lim r.vr) (hypot_of p.v_ac p.v_dc) r.vr 0 3) Stays)
+    go : (auto : Bool) → Below 3 (cond auto (step d.over (entry_at nan v_lim r.vr) (hypot_of p.v_ac p.v_dc) r.vr 0 3) None)
     go true = step_below d.over (entry_at nan v_lim r.vr) (hypot_of p.v_ac p.v_dc) r.vr 0 3 h
     go false = tt
 
@@ -147,7 +141,7 @@ i_below : (d : Description) (r : Ranges) (barred : ℕ) (p : Parts) → r.ik ≤
 unfolding i_change
 i_below d r barred p h = go r.i_auto (is_over d.over r.ik p && leb 1 (iu_ir r.ik).iu)
   where
-    go : (auto hop : Bool) → Below 5 (cond auto (cond hop (To 4) (step d.over (entry_at nan i_lim r.ik) (hypot_of p.i_ac p.i_dc) r.ik (least_ik d.a_auto barred) 5)) Stays)
+    go : (auto hop : Bool) → Below 5 (cond auto (cond hop (Some 4) (step d.over (entry_at nan i_lim r.ik) (hypot_of p.i_ac p.i_dc) r.ik (least_ik d.a_auto barred) 5)) None)
     go true true = omega arith
     go true false = step_below d.over (entry_at nan i_lim r.ik) (hypot_of p.i_ac p.i_dc) r.ik (least_ik d.a_auto barred) 5 h
     go false hop = tt
@@ -156,27 +150,27 @@ barred_below : (barred ik : ℕ) → barred ≤ 2 → barred_after barred ik ≤
 unfolding barred_after
 barred_below barred ik h = go (eqb barred 0)
   where
-    go : (none : Bool) → cond none (iu_ir ik).iu (at_most (iu_ir ik).iu barred) ≤ 2
+    go : (none : Bool) → cond none (iu_ir ik).iu (min barred (iu_ir ik).iu) ≤ 2
     go true = iu_most ik
-    go false = omega (arith, at_most_law (iu_ir ik).iu barred, iu_most ik)
+    go false = omega (arith, iu_most ik)
 
 module _ (d : Description) (mode : Mode) (p : Parts) (g : Ranging) (now : ℕ) (h : InBounds g.ranges g.barred) where
-  pub v_bounds : InBounds (autorange_v d mode p g now).ranging.ranges (autorange_v d mode p g now).ranging.barred
-  unfolding autorange_v stays changed_v
+  pub v_bounds : let a = after g (autorange of.Voltage d mode p g now) in InBounds a.ranges a.barred
+  unfolding autorange asked asked_v applied
   v_bounds = go (v_change d g.ranges p) (v_below d g.ranges p h.0)
     where
-      go : (asked : Change) → Below 3 asked → InBounds (by_change_v mode g now asked).ranging.ranges (by_change_v mode g now asked).ranging.barred
-      go Stays b = h
-      go (To vr) b = (b, h.1, h.2)
+      go : (o : Option ℕ) → Below 3 o → let a = after g (applied_by (other_than of.Voltage) mode now (by_change_v g o)) in InBounds a.ranges a.barred
+      go None b = h
+      go (Some vr) b = (b, h.1, h.2)
 
-  pub i_bounds : InBounds (autorange_i d mode p g now).ranging.ranges (autorange_i d mode p g now).ranging.barred
-  unfolding autorange_i stays changed_i
+  pub i_bounds : let a = after g (autorange of.Current d mode p g now) in InBounds a.ranges a.barred
+  unfolding autorange asked asked_i applied
   i_bounds = go (trips d g.ranges p) (i_change d g.ranges g.barred p) (i_below d g.ranges g.barred p h.1)
     where
-      go : (trip : Bool) (asked : Change) → Below 5 asked → let after = (cond trip (changed_i mode g (barred_after g.barred g.ranges.ik) 5 now) (by_change_i mode g now asked)).ranging in InBounds after.ranges after.barred
-      go true asked b = (h.0, omega arith, barred_below g.barred g.ranges.ik h.2)
-      go false Stays b = h
-      go false (To ik) b = (h.0, b, h.2)
+      go : (trip : Bool) (o : Option ℕ) → Below 5 o → let a = after g (applied_by (other_than of.Current) mode now (cond trip (Some (with_ik g (barred_after g.barred g.ranges.ik) 5)) (by_change_i g o))) in InBounds a.ranges a.barred
+      go true o b = (h.0, omega arith, barred_below g.barred g.ranges.ik h.2)
+      go false None b = h
+      go false (Some ik) b = (h.0, b, h.2)
 
 -- ---- `stat` is `CYCLE[phase]` after an apply, an advance and a switch of the alternating method
 pub apply_stat : (keep : Keep) (mode : Mode) (vr : ℕ) (c : Cycle) (k : Comparator) (now : ℕ) → let a = (apply keep mode vr c k now).cycle in a.stat ≡ cycle_at a.phase
@@ -207,39 +201,28 @@ new_in_bounds d c = (omega arith, omega arith, omega arith)
 
 -- ---- document 01: "a trip sets it"; nothing else moves what is barred
 module _ (d : Description) (mode : Mode) (p : Parts) (g : Ranging) (now : ℕ) where
-  pub trip_does : trips d g.ranges p ≡ true → let a = autorange_i d mode p g now in
-      (a.ranging.ranges.ik ≡ 5) × (a.ranging.barred ≡ barred_after g.barred g.ranges.ik) × (a.mark.set ≡ true)
-  unfolding autorange_i changed_i
-  trip_does trip = (rw trip, rw trip, rw trip)
+  pub trip_does : trips d g.ranges p ≡ true → IsSomeAnd (autorange of.Current d mode p g now) (λ r. (r.ranging.ranges.ik ≡ 5) × (r.ranging.barred ≡ barred_after g.barred g.ranges.ik))
+  unfolding autorange asked asked_i applied
+  trip_does trip = rw trip (refl, refl)
 
-  pub no_trip : trips d g.ranges p ≡ false → (autorange_i d mode p g now).ranging.barred ≡ g.barred
-  unfolding autorange_i stays changed_i
+  pub no_trip : trips d g.ranges p ≡ false → (after g (autorange of.Current d mode p g now)).barred ≡ g.barred
+  unfolding autorange asked asked_i applied
   no_trip none = rw none (go (i_change d g.ranges g.barred p))
     where
-      go : (asked : Change) → (by_change_i mode g now asked).ranging.barred ≡ g.barred
-      go Stays = refl
-      go (To ik) = refl
+      go : (o : Option ℕ) → (after g (applied_by (other_than of.Current) mode now (by_change_i g o))).barred ≡ g.barred
+      go None = refl
+      go (Some ik) = refl
 
 -- ---- an apply that keeps nothing marks nothing
 pub apply_keeps_nothing : (mode : Mode) (vr : ℕ) (c : Cycle) (k : Comparator) (now : ℕ) → (apply Nothing mode vr c k now).cycle.seen ≡ 0
 unfolding apply kept_seen
 apply_keeps_nothing mode vr c k now = refl
 
--- ---- a mark has the deadline of the call's time
-module _ (d : Description) (mode : Mode) (p : Parts) (g : Ranging) (now : ℕ) where
-  pub v_mark : MarkAt now (autorange_v d mode p g now).mark
-  unfolding autorange_v stays changed_v apply
-  v_mark = go (v_change d g.ranges p)
-    where
-      go : (asked : Change) → MarkAt now (by_change_v mode g now asked).mark
-      go Stays = inl refl
-      go (To vr) = inr (settle_ms, of_apply, refl)
-
-  pub i_mark : MarkAt now (autorange_i d mode p g now).mark
-  unfolding autorange_i stays changed_i apply
-  i_mark = go (trips d g.ranges p) (i_change d g.ranges g.barred p)
-    where
-      go : (trip : Bool) (asked : Change) → MarkAt now (cond trip (changed_i mode g (barred_after g.barred g.ranges.ik) 5 now) (by_change_i mode g now asked)).mark
-      go true asked = inr (settle_ms, of_apply, refl)
-      go false Stays = inl refl
-      go false (To ik) = inr (settle_ms, of_apply, refl)
+-- ---- a range that is applied gives the deadline of the call's time
+pub deadline_of : (channel : Channel) (d : Description) (mode : Mode) (p : Parts) (g : Ranging) (now : ℕ) → ForSome (autorange channel d mode p g now) (λ r. r.deadline ≡ deadline now settle_ms)
+unfolding autorange applied apply
+deadline_of channel d mode p g now = go (asked channel d p g)
+  where
+    go : (o : Option Ranging) → ForSome (applied_by (other_than channel) mode now o) (λ r. r.deadline ≡ deadline now settle_ms)
+    go None r e = cc
+    go (Some x) r e = cc

@@ -1,31 +1,29 @@
 -- `pw_autorange` of the source: which range is asked for. And `overload_trips` of sentinel.rs with `barred`, all that document 01 keeps of the overload.
-use Rattle.std.specs.Prelude.{Bool, true, not, cond, ◌&&◌, ◌||◌, ℕ, ◌+◌, ◌-◌, ◌*◌, ltb, leb, eqb, Float}
+use Rattle.std.specs.Prelude.{Bool, true, not, cond, ◌&&◌, ◌||◌, ℕ, ◌+◌, ◌-◌, ◌*◌, ltb, leb, eqb, min, max, Option, Some, None, Float}
 use Rattle.std.specs.Float.{nan, binary32}
 use Rattle.std.specs.Float.Ieee.{lt, of_bits}
 use Rattle.numbers.specs.Binary32.{◌*f◌, ◌/f◌}
 use Rattle.numbers.specs.Root.{hypot_of}
-use Rattle.tables.specs.Bounds.{at_most, entry_at}
+use Rattle.tables.specs.Bounds.{entry_at}
 use Rattle.tables.specs.Constants.{v_lim, i_lim}
 use Rattle.tables.specs.Ranges.{iu_ir}
 use Rattle.tables.specs.declared.description.Description.{Description}
 use Rattle.state.specs.declared.Ranges.{Ranges}
 use Rattle.state.specs.declared.Parts.{Parts}
-use Rattle.ranging.specs.declared.change.Change.{Change}
-use Rattle.ranging.specs.declared.change.Change.TheVariants.{Stays, To}
 
 -- 0.1
 abbrev pub tenth : Float
 tenth = of_bits binary32 0x3dcc_cccd
 
--- one up where `m > ov * lim` and k < most, else one down where `m < 0.1 * lim / ov` and k > least
-unfoldable pub step : Float → Float → Float → ℕ → ℕ → ℕ → Change
+-- None where the range stays: one up where `m > ov * lim` and k < most, else one down where `m < 0.1 * lim / ov` and k > least
+unfoldable pub step : Float → Float → Float → ℕ → ℕ → ℕ → Option ℕ
 step over limit m k least most =
-    cond (lt (over *f limit) m && ltb k most) (To (k + 1))
-    (cond (lt m (tenth *f limit /f over) && ltb least k) (To (k - 1)) Stays)
+    cond (lt (over *f limit) m && ltb k most) (Some (k + 1))
+    (cond (lt m (tenth *f limit /f over) && ltb least k) (Some (k - 1)) None)
 
 -- the V channel's, 0 to 3
-unfoldable pub v_change : Description → Ranges → Parts → Change
-v_change d r p = cond r.v_auto (step d.over (entry_at nan v_lim r.vr) (hypot_of p.v_ac p.v_dc) r.vr 0 3) Stays
+unfoldable pub v_change : Description → Ranges → Parts → Option ℕ
+v_change d r p = cond r.v_auto (step d.over (entry_at nan v_lim r.vr) (hypot_of p.v_ac p.v_dc) r.vr 0 3) None
 
 -- `overload_trips`: `unit >= 1 && unit <= 2 && over && (manual || range >= 1)`
 unfoldable pub overload_trips : ℕ → ℕ → Bool → Bool → Bool
@@ -41,20 +39,20 @@ trips d r p = not r.i_auto && overload_trips (iu_ir r.ik).iu (iu_ir r.ik).ir tru
 
 -- `self.ovl.map_or(iu, |o| o.barred.min(iu))`: no unit barred before is 0
 unfoldable pub barred_after : ℕ → ℕ → ℕ
-barred_after barred ik = cond (eqb barred 0) (iu_ir ik).iu (at_most (iu_ir ik).iu barred)
+barred_after barred ik = cond (eqb barred 0) (iu_ir ik).iu (min barred (iu_ir ik).iu)
 
 -- `self.ovl.map_or(0, |o| 2 * (3 - o.barred.min(3)))`
 unfoldable pub shunt_floor : ℕ → ℕ
-shunt_floor barred = cond (eqb barred 0) 0 (2 * (3 - at_most 3 barred))
+shunt_floor barred = cond (eqb barred 0) 0 (2 * (3 - min barred 3))
 
 -- `kmin`: `(if a_auto == 1 { 2 } else { 0 }).max(floor)`
 unfoldable pub least_ik : Bool → ℕ → ℕ
-least_ik aAuto barred = cond (aAuto && ltb (shunt_floor barred) 2) 2 (shunt_floor barred)
+least_ik aAuto barred = cond aAuto (max (shunt_floor barred) 2) (shunt_floor barred)
 
 -- the current channel's, 0 to 5; over range on the mA or uA shunt hops to 4, 6 A
-unfoldable pub i_change : Description → Ranges → ℕ → Parts → Change
+unfoldable pub i_change : Description → Ranges → ℕ → Parts → Option ℕ
 i_change d r barred p =
     cond r.i_auto
-    (cond (is_over d.over r.ik p && leb 1 (iu_ir r.ik).iu) (To 4)
+    (cond (is_over d.over r.ik p && leb 1 (iu_ir r.ik).iu) (Some 4)
     (step d.over (entry_at nan i_lim r.ik) (hypot_of p.i_ac p.i_dc) r.ik (least_ik d.a_auto barred) 5))
-    Stays
+    None

@@ -8,7 +8,7 @@ use tables::constants::{ALT_V_SKIP, DC_SKIP, R20_SENSE, R21_DEFAULT, SETTLE_MS};
 use tables::lookups::cycle;
 
 /// Which channel's marks stay over an apply (the source's `keep`: 0, 2, 4).
-#[derive(Clone, Copy)]
+#[derive(Clone, Copy, Debug, PartialEq, Eq)]
 pub enum Keep {
     Nothing,
     Voltage,
@@ -26,13 +26,11 @@ pub struct Applied {
 
 // The phase to start with: in method B, where one channel is kept, the other's statistic comes first;
 // else phase 0.
+#[tactic(auto, unfolding(crate::specs::Apply::phase_after))]
 fn phase_after(keep: Keep, mode: Mode) -> u8
     ensures { result ≡ phase_after keep mode }
 {
-    if mode.dc {
-        return 0;
-    }
-    if mode.alt {
+    if mode.dc || mode.alt {
         return 0;
     }
     match keep {
@@ -43,6 +41,7 @@ fn phase_after(keep: Keep, mode: Mode) -> u8
 }
 
 // The bit of a quantity in `seen`, 0 where it is not set.
+#[tactic(auto, unfolding(crate::specs::Apply::bit_in))]
 fn bit_in(seen: u8, q: Quantity) -> u8
     ensures { result ≡ bit_in seen q }
 {
@@ -50,6 +49,7 @@ fn bit_in(seen: u8, q: Quantity) -> u8
 }
 
 // The marks that stay; the power's never does.
+#[tactic(auto, unfolding(crate::specs::Apply::kept_seen))]
 fn kept_seen(keep: Keep, seen: u8) -> u8
     ensures { result ≡ kept_seen keep seen }
 {
@@ -61,20 +61,22 @@ fn kept_seen(keep: Keep, seen: u8) -> u8
 }
 
 // The results to drop after the row write.
+#[tactic(auto, unfolding(crate::specs::Apply::skip_after))]
 fn skip_after(mode: Mode) -> u8
     ensures { result ≡ skip_after mode }
 {
     if mode.dc {
-        return DC_SKIP;
+        DC_SKIP
+    } else if mode.alt {
+        ALT_V_SKIP
+    } else {
+        0
     }
-    if mode.alt {
-        return ALT_V_SKIP;
-    }
-    0
 }
 
 // The comparator; back to its default source and window where the ones chosen were for another V
 // range.
+#[tactic(auto, unfolding(crate::specs::Apply::comparator_for))]
 fn comparator_for(vr: u8, comparator: Comparator) -> Comparator
     ensures { result ≡ comparator_for vr comparator }
 {
@@ -90,6 +92,7 @@ fn comparator_for(vr: u8, comparator: Comparator) -> Comparator
 }
 
 /// The source's `pw_apply` with its `keep`, at the time `now`, in the V range `vr`.
+#[tactic(auto, unfolding(crate::specs::Apply::apply))]
 pub fn apply(
     keep: Keep,
     mode: Mode,
@@ -101,21 +104,16 @@ pub fn apply(
     ensures { result ≡ apply keep mode vr before comparator now }
 {
     let phase = phase_after(keep, mode);
-    let seen = kept_seen(keep, before.seen);
-    let skip = skip_after(mode);
-    let stat = cycle(phase);
-    let after = comparator_for(vr, comparator);
-    let at = deadline(now, SETTLE_MS);
     Applied {
         cycle: Cycle {
             phase,
-            skip,
+            skip: skip_after(mode),
             skip_y: DC_SKIP,
             taken: 0,
-            stat,
-            seen,
+            stat: cycle(phase),
+            seen: kept_seen(keep, before.seen),
         },
-        comparator: after,
-        deadline: at,
+        comparator: comparator_for(vr, comparator),
+        deadline: deadline(now, SETTLE_MS),
     }
 }

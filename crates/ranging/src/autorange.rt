@@ -1,12 +1,19 @@
 //! Autorange (the source's `pw_autorange` and `pw_ovl_trip`): a range that changes is applied at once,
 //! and the other channel's parts are kept.
 ghost use Rattle.std.specs.Prelude.{◌≡◌};
-ghost use Rattle.ranging.specs.Autorange.{stays, changed_v, changed_i, autorange_v, autorange_i};
+ghost use Rattle.ranging.specs.Autorange.{other_than, applied, asked_v, asked_i, asked, autorange};
 
 use crate::apply::{Keep, apply};
-use crate::change::{Change, barred_after, i_change, trips, v_change};
-use state::{Comparator, Cycle, Mode, Parts, Ranges, Stamp};
+use crate::change::{barred_after, i_change, trips, v_change};
+use state::{Comparator, Cycle, Mode, Parts, Ranges};
 use tables::description::Description;
+
+/// The channel that a result is of.
+#[derive(Clone, Copy, Debug, PartialEq, Eq)]
+pub enum Channel {
+    Voltage,
+    Current,
+}
 
 /// What an autorange may change.
 #[derive(Clone, Copy)]
@@ -18,118 +25,104 @@ pub struct Ranging {
     pub comparator: Comparator,
 }
 
-/// What it leaves; a mark is set exactly where a range was applied.
+/// What a range that was applied leaves, and when the host goes on.
 #[derive(Clone, Copy)]
 #[repr(C)]
 pub struct Ranged {
     pub ranging: Ranging,
-    pub mark: Stamp,
+    pub deadline: u64,
 }
 
-// No range is applied.
-fn stays(before: Ranging) -> Ranged
-    ensures { result ≡ stays before }
+// What an apply keeps where this channel's range changes: the other channel's parts.
+#[tactic(auto, unfolding(crate::specs::Autorange::other_than))]
+fn other_than(channel: Channel) -> Keep
+    ensures { result ≡ other_than channel }
 {
-    Ranged {
-        ranging: before,
-        mark: Stamp::NONE,
+    match channel {
+        Channel::Voltage => Keep::Current,
+        Channel::Current => Keep::Voltage,
     }
 }
 
-// V range vr is applied; the current's parts are kept.
-fn changed_v(mode: Mode, before: Ranging, vr: u8, now: u64) -> Ranged
-    ensures { result ≡ changed_v mode before vr now }
+// The ranges asked for are applied.
+#[tactic(auto, unfolding(crate::specs::Autorange::applied))]
+fn applied(keep: Keep, mode: Mode, asked: Ranging, now: u64) -> Ranged
+    ensures { result ≡ applied keep mode asked now }
 {
-    let mut ranges = before.ranges;
-    ranges.vr = vr;
-    let applied = apply(
-        Keep::Current,
-        mode,
-        vr,
-        before.cycle,
-        before.comparator,
-        now,
-    );
-    let cycle = applied.cycle;
-    let comparator = applied.comparator;
+    let vr = asked.ranges.vr;
+    let applied = apply(keep, mode, vr, asked.cycle, asked.comparator, now);
     Ranged {
         ranging: Ranging {
-            ranges,
-            barred: before.barred,
-            cycle,
-            comparator,
+            cycle: applied.cycle,
+            comparator: applied.comparator,
+            ..asked
         },
-        mark: Stamp {
-            set: true,
-            at: applied.deadline,
-        },
+        deadline: applied.deadline,
     }
 }
 
-// Current range ik is applied; the voltage's parts are kept.
-fn changed_i(mode: Mode, before: Ranging, barred: u8, ik: u8, now: u64) -> Ranged
-    ensures { result ≡ changed_i mode before barred ik now }
+// The V range asked for after a V result, if another.
+#[tactic(auto, unfolding(crate::specs::Autorange::asked_v))]
+fn asked_v(description: Description, parts: Parts, before: Ranging) -> Option<Ranging>
+    ensures { result ≡ asked_v description parts before }
 {
-    let mut ranges = before.ranges;
-    ranges.ik = ik;
-    let applied = apply(
-        Keep::Voltage,
-        mode,
-        ranges.vr,
-        before.cycle,
-        before.comparator,
-        now,
-    );
-    let cycle = applied.cycle;
-    let comparator = applied.comparator;
-    Ranged {
-        ranging: Ranging {
-            ranges,
-            barred,
-            cycle,
-            comparator,
+    let vr = v_change(description, before.ranges, parts)?;
+    Some(Ranging {
+        ranges: Ranges {
+            vr,
+            ..before.ranges
         },
-        mark: Stamp {
-            set: true,
-            at: applied.deadline,
-        },
-    }
+        ..before
+    })
 }
 
-/// After a V result.
-pub fn autorange_v(
-    description: Description,
-    mode: Mode,
-    parts: Parts,
-    before: Ranging,
-    now: u64,
-) -> Ranged
-    ensures { result ≡ autorange_v description mode parts before now }
+// The current range asked for after a current result, if another. A trip bars the unit and goes to 10 A.
+#[tactic(auto, unfolding(crate::specs::Autorange::asked_i))]
+fn asked_i(description: Description, parts: Parts, before: Ranging) -> Option<Ranging>
+    ensures { result ≡ asked_i description parts before }
 {
     let ranges = before.ranges;
-    match v_change(description, ranges, parts) {
-        Change::Stays => stays(before),
-        Change::To(vr) => changed_v(mode, before, vr, now),
-    }
-}
-
-/// After a current result. A trip bars the unit and goes to 10 A.
-pub fn autorange_i(
-    description: Description,
-    mode: Mode,
-    parts: Parts,
-    before: Ranging,
-    now: u64,
-) -> Ranged
-    ensures { result ≡ autorange_i description mode parts before now }
-{
-    let ranges = before.ranges;
-    let barred = before.barred;
     if trips(description, ranges, parts) {
-        return changed_i(mode, before, barred_after(barred, ranges.ik), 5, now);
+        return Some(Ranging {
+            ranges: Ranges { ik: 5, ..ranges },
+            barred: barred_after(before.barred, ranges.ik),
+            ..before
+        });
     }
-    match i_change(description, ranges, barred, parts) {
-        Change::Stays => stays(before),
-        Change::To(ik) => changed_i(mode, before, barred, ik, now),
+    let ik = i_change(description, ranges, before.barred, parts)?;
+    Some(Ranging {
+        ranges: Ranges { ik, ..ranges },
+        ..before
+    })
+}
+
+#[tactic(auto, unfolding(crate::specs::Autorange::asked))]
+fn asked(
+    channel: Channel,
+    description: Description,
+    parts: Parts,
+    before: Ranging,
+) -> Option<Ranging>
+    ensures { result ≡ asked channel description parts before }
+{
+    match channel {
+        Channel::Voltage => asked_v(description, parts, before),
+        Channel::Current => asked_i(description, parts, before),
     }
+}
+
+/// After a result of this channel: the range that it asks for is applied, or the ranges stay.
+#[tactic(auto, unfolding(crate::specs::Autorange::autorange))]
+pub fn autorange(
+    channel: Channel,
+    description: Description,
+    mode: Mode,
+    parts: Parts,
+    before: Ranging,
+    now: u64,
+) -> Option<Ranged>
+    ensures { result ≡ autorange channel description mode parts before now }
+{
+    let asked = asked(channel, description, parts, before)?;
+    Some(applied(other_than(channel), mode, asked, now))
 }

@@ -15,22 +15,27 @@ pub struct Switched {
 }
 
 /// Method B: the next phase; where it has another R34, that is set and two results are to be dropped.
+#[tactic(auto, unfolding(crate::specs::Cycle::advance))]
 pub fn advance(before: Cycle) -> Cycle
     ensures { result ≡ advance before }
 {
     let phase = (before.phase % 4 + 1) % 4;
-    let next = cycle(phase);
-    let mut after = before;
-    after.phase = phase;
-    if next == before.stat {
-        return after;
+    let stat = cycle(phase);
+    let skip = if stat == before.stat {
+        before.skip
+    } else {
+        DISC_DEFAULT
+    };
+    Cycle {
+        phase,
+        skip,
+        stat,
+        ..before
     }
-    after.stat = next;
-    after.skip = DISC_DEFAULT;
-    after
 }
 
 // The other of an even phase and the odd one after it.
+#[tactic(auto, unfolding(crate::specs::Cycle::other_phase))]
 fn other_phase(phase: u8) -> u8
     ensures { result ≡ other_phase phase }
 {
@@ -39,25 +44,24 @@ fn other_phase(phase: u8) -> u8
 
 /// The alternating method: the other row; the V row settles longer, and its first four results are
 /// dropped.
+#[tactic(auto, unfolding(crate::specs::Cycle::alt_switch))]
 pub fn alt_switch(before: Cycle, now: u64) -> Switched
     ensures { result ≡ alt_switch before now }
 {
     let phase = other_phase(before.phase);
-    let stat = cycle(phase);
-    let mut after = before;
-    after.taken = 0;
-    after.phase = phase;
-    after.stat = stat;
-    if phase % 2 == 0 {
-        after.skip = ALT_V_SKIP;
-        return Switched {
-            cycle: after,
-            deadline: deadline(now, ALT_V_SETTLE_MS),
-        };
-    }
-    after.skip = 0;
+    let (skip, settle) = if phase % 2 == 0 {
+        (ALT_V_SKIP, ALT_V_SETTLE_MS)
+    } else {
+        (0, SETTLE_MS)
+    };
     Switched {
-        cycle: after,
-        deadline: deadline(now, SETTLE_MS),
+        cycle: Cycle {
+            phase,
+            skip,
+            taken: 0,
+            stat: cycle(phase),
+            ..before
+        },
+        deadline: deadline(now, settle),
     }
 }

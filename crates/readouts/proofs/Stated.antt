@@ -14,15 +14,14 @@ use Rattle.tables.specs.Ranges.{iu_ir}
 use Rattle.formats.specs.declared.format.Format.{Format}
 use Rattle.formats.specs.declared.readout.Val.{Val}
 use Rattle.formats.specs.declared.units.Unit.{Unit}
-use Rattle.formats.specs.declared.units.Unit.TheVariants.{Volt, Milliwatt, Kilowatt}
-use Rattle.formats.specs.Units.{same_unit}
+use Rattle.formats.specs.declared.units.Unit.TheVariants.{Volt, Kilowatt}
 use Rattle.formats.specs.Formats.{energy_format, p_format}
 use Rattle.formats.specs.Readout.{val_of, over_val, tens, shown, shown_unless}
 use Rattle.formats.proofs.Stated.{minus_zero, plus_zero, shown_no_minus_zero, unless_no_minus_zero, energy_decimals, power_decimals}
 use Rattle.values.specs.declared.power_vals.PowerVals.{PowerVals}
 use Rattle.readouts.specs.declared.bluetooth.Fitted.{Fitted}
 use Rattle.readouts.specs.Readings.{full_scale, volt_decimals, main_si, any_over, v_readout, i_format, i_readout, energy_readout, power_readout, main_readout, reading_vals, energy_val}
-use Rattle.readouts.specs.Bluetooth.{tenth, held_count, too_large, decimals_that_fit, held_number, volt_group, bt_val, bt_main}
+use Rattle.readouts.specs.Bluetooth.{tenth, held_count, too_large, decimals_that_fit, held_number, volts_for, volt_group, bt_val, bt_main}
 
 -- ---- document 01: "over gives number 0.0"
 
@@ -162,9 +161,13 @@ sent_fits_or_held x k most = sent_by _ x (decimals_that_fit x k most) refl (fits
 less : (n m k : ℕ) → n ≤ m → m ≤ k → n ≤ k
 less n m k h j = omega (arith, h, j)
 
+volts_few : (u : Unit) (f : Format) → Few f → Few (volts_for u f)
+volts_few Kilowatt f h = omega (arith, h)
+volts_few u f h = h
+
 volt_few : (f : Format) → Few f → Few (volt_group f)
 unfolding volt_group
-volt_few f h = either Few (same_unit f.unit Milliwatt) h (either Few (same_unit f.unit Kilowatt) (omega (arith, h)) h)
+volt_few f h = volts_few f.unit f h
 
 bt_plain : (f : Format) → Few f → Plain (bt_val f)
 unfolding bt_val

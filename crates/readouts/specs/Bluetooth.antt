@@ -7,8 +7,8 @@ use Rattle.tables.specs.Bounds.{at_most}
 use Rattle.figures.specs.Acc.{thousand}
 use Rattle.formats.specs.declared.format.Format.{Format}
 use Rattle.formats.specs.declared.readout.Val.{Val}
+use Rattle.formats.specs.declared.units.Unit.{Unit}
 use Rattle.formats.specs.declared.units.Unit.TheVariants.{Volt, Milliwatt, Kilowatt, Millivolt}
-use Rattle.formats.specs.Units.{same_unit}
 use Rattle.formats.specs.Formats.{p_format}
 use Rattle.formats.specs.Readout.{over_val, tens, half, shown}
 use Rattle.values.specs.declared.power_vals.PowerVals.{PowerVals}
@@ -20,11 +20,13 @@ unfoldable pub bt_mode_byte : Bool → ℕ → ℕ
 bt_mode_byte vAuto vr = cond vAuto 5 (at_most 3 vr + 1) * 8
 
 -- "W -> "V", mW -> "mV", kW -> "V" with the decimals moved". The logic's `◌-◌` stops at 0, as `saturating_sub`
+abbrev pub volts_for : Unit → Format → Format
+volts_for Milliwatt f = record { number = f.number; decimals = f.decimals; unit = Millivolt }
+volts_for Kilowatt f = record { number = f.number *f thousand; decimals = f.decimals - 3; unit = Volt }
+volts_for u f = record { number = f.number; decimals = f.decimals; unit = Volt }
+
 unfoldable pub volt_group : Format → Format
-volt_group f =
-    cond (same_unit f.unit Milliwatt) (record { number = f.number; decimals = f.decimals; unit = Millivolt })
-    (cond (same_unit f.unit Kilowatt) (record { number = f.number *f thousand; decimals = f.decimals - 3; unit = Volt })
-    (record { number = f.number; decimals = f.decimals; unit = Volt }))
+volt_group f = volts_for f.unit f
 
 abbrev pub no_value_count : Float
 no_value_count = of_bits binary32 0x477f_ff00  -- 65535.0

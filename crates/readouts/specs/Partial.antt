@@ -1,5 +1,5 @@
 -- `pw_partial` of the source, its text as a number.
-use Rattle.std.specs.Prelude.{cond, ◌&&◌, ℕ, eqb}
+use Rattle.std.specs.Prelude.{cond, ◌&&◌, ℕ, eqb, Option, None, Some}
 use Rattle.numbers.specs.Root.{hypot_of}
 use Rattle.tables.specs.Constants.{job_zero, job_vcal}
 use Rattle.state.specs.declared.Pw.{Pw}
@@ -7,8 +7,7 @@ use Rattle.state.specs.declared.Quantity.TheVariants.{Voltage}
 use Rattle.state.specs.Seen.{has_seen}
 use Rattle.formats.specs.declared.units.Unit.TheVariants.{Volt}
 use Rattle.formats.specs.Readout.{val_of}
-use Rattle.values.specs.declared.vals.Vals.{Vals}
-use Rattle.values.specs.declared.vals.Vals.TheVariants.{NoValues, Measured}
+use Rattle.values.specs.declared.power_vals.PowerVals.{PowerVals}
 use Rattle.values.specs.Vals.{pw_vals}
 use Rattle.readouts.specs.declared.partial.Partial.{Partial}
 use Rattle.readouts.specs.declared.partial.Partial.TheVariants.{Nothing, Zeroing, Calibrating, Ranging, RangingAt}
@@ -30,9 +29,9 @@ volts_so_far m =
     Ranging
 
 -- `_ if pw_vals().is_some()` is none
-abbrev pub ranging_by : Vals → Partial → Partial
-ranging_by (Measured pv) p = Nothing
-ranging_by NoValues p = p
+abbrev pub ranging_by : Option PowerVals → Partial → Partial
+ranging_by (Some pv) p = Nothing
+ranging_by None p = p
 
 unfoldable pub ranging : Pw → Partial
 ranging m = ranging_by (pw_vals m) (volts_so_far m)

@@ -1,19 +1,16 @@
 -- Document 01's table "Frames and figures on each side": its rows marked P, each a test of the definition that the contracts cite.
 -- One list for all modules, checked as a whole in proofs/Checked.antt.
-use Rattle.std.specs.Prelude.{Bool, true, false, ◌&&◌, List, [], ◌∷◌, ◌++◌, ℕ, eqb, ℤ, pos, negsuc, get_or, Float}
+use Rattle.std.specs.Prelude.{Bool, true, false, ◌&&◌, List, [], ◌∷◌, ◌++◌, ℕ, eqb, ℤ, pos, negsuc, get_or, Float, Option, Some, None, Result, Ok, Err}
 use Rattle.std.specs.Float.{binary32}
 use Rattle.std.specs.Float.Ieee.{eq, round}
-use Rattle.codes.specs.declared.Decoded.{Decoded}
-use Rattle.codes.specs.declared.Decoded.TheVariants.{Taken, Refused}
+use Rattle.refusals.specs.declared.Refusal.{Refusal}
+use Rattle.codes.specs.declared.Codes.{Codes}
 use Rattle.codes.specs.Frame.{decoded}
 use Rattle.numbers.specs.Decimal.{decimal}
 use Rattle.tables.specs.Calibration.{no_calibration}
 use Rattle.tables.specs.Ranges.{iu_ir}
-use Rattle.tables.specs.declared.window.Window.{Window}
-use Rattle.tables.specs.declared.window.Window.TheVariants.{NoWindow, R21}
 use Rattle.tables.specs.Window.{cmp_window}
-use Rattle.figures.specs.declared.acc.Added.{Added}
-use Rattle.figures.specs.declared.acc.Added.TheVariants.{Sum, Full}
+use Rattle.figures.specs.declared.acc.Sum.{Sum}
 use Rattle.figures.specs.Acc.{fresh_acc, add_to}
 use Rattle.state.specs.Fresh.{new_pw}
 use Rattle.steps.specs.declared.place.Kind.TheVariants.{Zero}
@@ -30,17 +27,17 @@ same_int (negsuc a) (pos b) = false
 same_int (negsuc a) (negsuc b) = eqb a b
 
 -- an answer with this AD1, LPF or RMS
-abbrev has_ad1 : ℤ → Decoded → Bool
-has_ad1 z (Taken codes) = same_int codes.ad1 z
-has_ad1 z Refused = false
+abbrev has_ad1 : ℤ → Result Codes Refusal → Bool
+has_ad1 z (Ok codes) = same_int codes.ad1 z
+has_ad1 z (Err refusal) = false
 
-abbrev has_lpf : ℤ → Decoded → Bool
-has_lpf z (Taken codes) = same_int codes.lpf z
-has_lpf z Refused = false
+abbrev has_lpf : ℤ → Result Codes Refusal → Bool
+has_lpf z (Ok codes) = same_int codes.lpf z
+has_lpf z (Err refusal) = false
 
-abbrev has_rms : ℤ → Decoded → Bool
-has_rms z (Taken codes) = same_int codes.rms z
-has_rms z Refused = false
+abbrev has_rms : ℤ → Result Codes Refusal → Bool
+has_rms z (Ok codes) = same_int codes.rms z
+has_rms z (Err refusal) = false
 
 -- a frame of three bytes of AD1, three of AD2, which nothing reads, three of LPF and five of RMS
 abbrev frame : List ℕ → List ℕ → List ℕ → List ℕ
@@ -58,13 +55,13 @@ abbrev is_unit : ℕ → ℕ → ℕ → Bool
 is_unit k u r = eqb (iu_ir k).iu u && eqb (iu_ir k).ir r
 
 -- a window of this code, and none
-abbrev is_r21 : ℕ → Window → Bool
-is_r21 n NoWindow = false
-is_r21 n (R21 code) = eqb code n
+abbrev is_r21 : ℕ → Option ℕ → Bool
+is_r21 n None = false
+is_r21 n (Some code) = eqb code n
 
-abbrev is_none : Window → Bool
-is_none NoWindow = true
-is_none (R21 code) = false
+abbrev is_none : Option ℕ → Bool
+is_none None = true
+is_none (Some code) = false
 
 -- a meter's zero job that has begun: a description and words, of which a zero reading takes nothing
 abbrev begun_bench : Bench
@@ -79,14 +76,14 @@ abbrev zero_of : ℤ → ℤ → ℤ → ℤ
 zero_of a b c = get_or (zero_frame c (zero_frame b (zero_frame a (zero_frame (pos 4000) begun_bench)))).job.job_zx 0 (pos 0)
 
 -- an add to what an earlier one left
-abbrev add_again : Float → Added → Added
-add_again joules (Sum a w) = add_to a joules
-add_again joules Full = Full
+abbrev add_again : Float → Result Sum Refusal → Result Sum Refusal
+add_again joules (Ok s) = add_to s.acc joules
+add_again joules (Err r) = Err r
 
 -- a count of this many millijoules and this fraction
-abbrev is_sum : ℤ → Float → Added → Bool
-is_sum mj frac (Sum a w) = same_int a.mj mj && eq a.frac frac
-is_sum mj frac Full = false
+abbrev is_sum : ℤ → Float → Result Sum Refusal → Bool
+is_sum mj frac (Ok s) = same_int s.acc.mj mj && eq s.acc.frac frac
+is_sum mj frac (Err r) = false
 
 -- 1/1024 J
 abbrev small : Float

@@ -1,5 +1,5 @@
 -- `Pw::new` of the source: the meter just made. Five fields are not in the source's `Pw`: `description` and `calibration` are what the meter is made with, `t_poll` and `barred` are dmm.rs's, `used` is ours; docs/DECISIONS.md lists the fields of the source that nothing in scope reads.
-use Rattle.std.specs.Prelude.{true, false, pos, replicate}
+use Rattle.std.specs.Prelude.{ℕ, Option, None, Some, true, false, cond, pos, replicate}
 use Rattle.numbers.specs.Binary32.{zero_f}
 use Rattle.tables.specs.declared.calibration.Calibration.{Calibration}
 use Rattle.tables.specs.declared.description.Description.{Description}
@@ -23,6 +23,18 @@ use Rattle.state.specs.declared.Pw.{Pw}
 -- no time: the source's `None`
 abbrev pub no_time : Stamp
 no_time = record { set = false; at = 0 }
+
+-- this time: its `Some(t)`
+abbrev pub at_time : ℕ → Stamp
+at_time t = record { set = true; at = t }
+
+-- the stamp of an `Option<u64>`, and the `Option<u64>` of a stamp
+abbrev pub stamp_of : Option ℕ → Stamp
+stamp_of None = no_time
+stamp_of (Some t) = at_time t
+
+abbrev pub time_in : Stamp → Option ℕ
+time_in s = cond s.set (Some s.at) None
 
 abbrev pub fresh_mode : Mode
 fresh_mode = record { on = false; alt = false; coup = coup_dc; dc = false; cal_req = false }

@@ -4,7 +4,7 @@
 #![tactic(auto)]
 
 ghost use Rattle.std.specs.Prelude.{◌≡◌};
-ghost use Rattle.state.specs.Fresh.{new_pw};
+ghost use Rattle.state.specs.Fresh.{at_time, stamp_of, time_in, new_pw};
 ghost use Rattle.state.specs.Counting.{elapsed, deadline, count_up};
 ghost use Rattle.state.specs.Seen.{bit_of, has_seen, also_seen, both_seen};
 
@@ -16,8 +16,8 @@ use tables::constants::{
 };
 use tables::description::Description;
 
-/// A time in ms where `set`, else none: the source's `Option<u64>`.
-#[derive(Clone, Copy)]
+/// A time in ms where `set`, else none: the source's `Option<u64>`, as a C host keeps it.
+#[derive(Clone, Copy, Debug, PartialEq, Eq)]
 #[repr(C)]
 pub struct Stamp {
     pub set: bool,
@@ -27,11 +27,37 @@ pub struct Stamp {
 impl Stamp {
     /// No time.
     pub const NONE: Stamp = Stamp { set: false, at: 0 };
+
+    /// This time.
+    pub fn at_time(time: u64) -> Stamp
+        ensures { result ≡ at_time time }
+    {
+        Stamp {
+            set: true,
+            at: time,
+        }
+    }
+}
+
+impl From<Option<u64>> for Stamp {
+    ghost from_gives = { λ time s. s ≡ stamp_of time };
+
+    fn from(time: Option<u64>) -> Stamp {
+        time.map_or(Stamp::NONE, Stamp::at_time)
+    }
+}
+
+impl From<Stamp> for Option<u64> {
+    ghost from_gives = { λ stamp time. time ≡ time_in stamp };
+
+    fn from(stamp: Stamp) -> Option<u64> {
+        stamp.set.then_some(stamp.at)
+    }
 }
 
 /// What the meter does: on, the alternating method, the coupling asked for, DC coupling in force, and
 /// that the host is to re-apply.
-#[derive(Clone, Copy)]
+#[derive(Clone, Copy, Debug, PartialEq, Eq)]
 #[repr(C)]
 pub struct Mode {
     pub on: bool,
@@ -53,7 +79,7 @@ impl Mode {
 }
 
 /// The V range and the current range, and whether each is found by itself.
-#[derive(Clone, Copy)]
+#[derive(Clone, Copy, Debug, PartialEq, Eq)]
 #[repr(C)]
 pub struct Ranges {
     pub vr: u8,
@@ -76,7 +102,7 @@ impl Ranges {
 /// this phase of the alternating method; `stat`, which is R34 where the row is the power row (with
 /// another row it is in no register); and the quantities marked as measured (1 power, 2 voltage, 4
 /// current), of which an apply clears those that it does not keep.
-#[derive(Clone, Copy)]
+#[derive(Clone, Copy, Debug, PartialEq, Eq)]
 #[repr(C)]
 pub struct Cycle {
     pub phase: u8,
@@ -99,7 +125,7 @@ impl Cycle {
 }
 
 /// The three bits of `seen`.
-#[derive(Clone, Copy)]
+#[derive(Clone, Copy, Debug, PartialEq, Eq)]
 pub enum Quantity {
     Power,
     Voltage,
@@ -145,7 +171,7 @@ impl Powers {
 }
 
 /// Whether energy is counted, the last accounted frame's time, and the last frame's.
-#[derive(Clone, Copy)]
+#[derive(Clone, Copy, Debug, PartialEq, Eq)]
 #[repr(C)]
 pub struct Clock {
     pub run: bool,
@@ -279,7 +305,7 @@ impl Job {
 
 /// The comparator's source (R20 without its counter's bit, 02h) and window (R21), whether a frequency is
 /// to be had, and the V range that the window was chosen for.
-#[derive(Clone, Copy)]
+#[derive(Clone, Copy, Debug, PartialEq, Eq)]
 #[repr(C)]
 pub struct Comparator {
     pub r20: u8,
@@ -355,16 +381,8 @@ impl Pw {
     // The meter that document 01's `pwline` has, just made: the source's values, a description of 1.0
     // throughout, and no valid calibration word.
     const PLAIN: Pw = Pw {
-        description: Description {
-            mv_div: [1.0; 2],
-            shunt: [1.0; 3],
-            over: 1.0,
-            a_auto: false,
-        },
-        calibration: Calibration {
-            words: [0; 73],
-            valid: false,
-        },
+        description: Description::PLAIN,
+        calibration: Calibration::NONE,
         mode: Mode::NEW,
         ranges: Ranges::NEW,
         barred: 0,
@@ -398,29 +416,29 @@ impl Pw {
 pub fn elapsed(now: u64, since: u64) -> u64
     ensures { result ≡ elapsed now since }
 {
-    if since < now { now - since } else { 0 }
+    now.saturating_sub(since)
 }
 
 /// When the host goes on after a row write: `settle` ms from now, held to the end of 64 bits.
+#[tactic(auto, unfolding(crate::specs::Counting::deadline, tables::specs::Bounds::at_most))]
 pub fn deadline(now: u64, settle: u64) -> u64
     ensures { result ≡ deadline now settle }
 {
-    let left = 18446744073709551615 - now;
-    if settle < left {
-        now + settle
-    } else {
-        18446744073709551615
-    }
+    now.saturating_add(settle)
 }
 
 /// One more, held at 255.
+#[tactic(auto, unfolding(crate::specs::Counting::count_up))]
 pub fn count_up(n: u8) -> u8
     ensures { result ≡ count_up n }
 {
-    if n < 255 { n + 1 } else { n }
+    n.saturating_add(1)
 }
 
+// Functions of a bare byte, since `seen` is one in a record that a C host keeps.
+
 /// The bit of `seen` that stands for a quantity.
+#[tactic(auto, unfolding(crate::specs::Seen::bit_of))]
 pub fn bit_of(q: Quantity) -> u8
     ensures { result ≡ bit_of q }
 {
@@ -432,6 +450,7 @@ pub fn bit_of(q: Quantity) -> u8
 }
 
 /// Whether a quantity is marked as measured.
+#[tactic(auto, using(crate::proofs::Bits::positive), unfolding(crate::specs::Seen::has_seen))]
 pub fn has_seen(seen: u8, q: Quantity) -> bool
     ensures { result ≡ has_seen seen q }
 {
@@ -439,6 +458,7 @@ pub fn has_seen(seen: u8, q: Quantity) -> bool
 }
 
 /// The marks, with this quantity's set.
+#[tactic(auto, using(crate::proofs::Bits::still_fits), unfolding(crate::specs::Seen::also_seen))]
 pub fn also_seen(seen: u8, q: Quantity) -> u8
     ensures { result ≡ also_seen seen q }
 {
@@ -449,12 +469,9 @@ pub fn also_seen(seen: u8, q: Quantity) -> u8
 }
 
 /// Whether voltage and current are marked.
+#[tactic(auto, unfolding(crate::specs::Seen::both_seen))]
 pub fn both_seen(seen: u8) -> bool
     ensures { result ≡ both_seen seen }
 {
-    if has_seen(seen, Quantity::Voltage) {
-        has_seen(seen, Quantity::Current)
-    } else {
-        false
-    }
+    has_seen(seen, Quantity::Voltage) && has_seen(seen, Quantity::Current)
 }

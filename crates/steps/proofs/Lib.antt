@@ -1,4 +1,3 @@
-pub mod Apart
 pub mod Zeros
 pub mod Nearest
 pub mod Stated

@@ -5,6 +5,7 @@ use Prim.Native.Nat.{ℕ, zero, suc, ◌+◌, ◌*◌, ◌/◌, ◌<◌, ◌≤�
 use native.Mathlib.Omega.{arith}
 use borrow.Author.Tests.{ltb-true, ltb-false, lt-ltb, le-ltb}
 use lib.Dec.{ltb}
+use Rattle.std.specs.Prelude.{Result, Ok, Err}
 use lib.IntN.{ℤ, pos, negsuc, neg_ℤ}
 use lib.Signed.{lt_z}
 use lib.Ieee.{Float, nan, inf, fin, add, up, down, to_signed}
@@ -15,8 +16,8 @@ use Rattle.codes.specs.declared.Codes.{Codes}
 use Rattle.tables.specs.Constants.{job_n, zero_max_ad1}
 use Rattle.tables.specs.Gain.{plausible}
 use Rattle.steps.specs.declared.place.Place.TheVariants.{ZeroX, ZeroD, ZeroY}
-use Rattle.steps.specs.declared.verdict.GainVerdict.{GainVerdict}
-use Rattle.steps.specs.declared.verdict.GainVerdict.TheVariants.{Unstable, Outside, Good}
+use Rattle.steps.specs.declared.error.JobError.{JobError}
+use Rattle.steps.specs.declared.error.JobError.TheVariants.{Unstable, Range}
 use Rattle.steps.specs.Place.{Layout, zero_steps, dc_steps, ac_steps, place_of, drops_of}
 use Rattle.steps.specs.Reading.{distance, lpf_signal, signal}
 use Rattle.steps.specs.Verdict.{zero_mean, half_sum, steady, rounds_differ, ratio_verdict, gain_verdict}
@@ -107,22 +108,21 @@ frames = (refl, refl, refl)
 
 -- ---- a good gain is plausible
 
-abbrev plausible_in : GainVerdict → Bool
-plausible_in Unstable = true
-plausible_in Outside = true
-plausible_in (Good g) = plausible g
+abbrev plausible_in : Result Float JobError → Bool
+plausible_in (Err e) = true
+plausible_in (Ok g) = plausible g
 
 module _ (r0 r1 g : Float) (still : Bool) where
   held : plausible_in (ratio_verdict r0 r1 g still) ≡ true
   unfolding ratio_verdict
   held = by (rounds_differ r0 r1 g still) (plausible g) refl
     where
-      by : (t p : Bool) → plausible g ≡ p → plausible_in (cond t Unstable (cond p (Good g) Outside)) ≡ true
+      by : (t p : Bool) → plausible g ≡ p → plausible_in (cond t (Err Unstable) (cond p (Ok g) (Err Range))) ≡ true
       by true p e = refl
       by false true e = e
       by false false e = refl
 
-pub good_plausible : (raw0 ref0 raw1 ref1 g : Float) → gain_verdict raw0 ref0 raw1 ref1 ≡ Good g → plausible g ≡ true
+pub good_plausible : (raw0 ref0 raw1 ref1 g : Float) → gain_verdict raw0 ref0 raw1 ref1 ≡ Ok g → plausible g ≡ true
 unfolding gain_verdict
 good_plausible raw0 ref0 raw1 ref1 g e =
     sym (ap plausible_in e) ∙ held (ref0 /f raw0) (ref1 /f raw1) (half_sum (ref0 /f raw0) (ref1 /f raw1)) (steady raw0 raw1)
@@ -130,15 +130,15 @@ good_plausible raw0 ref0 raw1 ref1 g e =
 -- ---- a NaN among the four means is unstable
 
 module _ (r0 r1 : Float) (still : Bool) where
-  first : r0 ≡ nan → ratio_verdict r0 r1 (half_sum r0 r1) still ≡ Unstable
+  first : r0 ≡ nan → ratio_verdict r0 r1 (half_sum r0 r1) still ≡ Err Unstable
   unfolding ratio_verdict rounds_differ add is_finite
   first e = rw (e, times_nan half_f)
 
-  second : r1 ≡ nan → ratio_verdict r0 r1 (half_sum r0 r1) still ≡ Unstable
+  second : r1 ≡ nan → ratio_verdict r0 r1 (half_sum r0 r1) still ≡ Err Unstable
   unfolding ratio_verdict rounds_differ is_finite
   second e = rw (e, plus_nan r0, times_nan half_f)
 
 module _ (raw0 ref0 raw1 ref1 : Float) where
-  pub nan_unstable : (gain_verdict nan ref0 raw1 ref1 ≡ Unstable) × (gain_verdict raw0 nan raw1 ref1 ≡ Unstable) × (gain_verdict raw0 ref0 nan ref1 ≡ Unstable) × (gain_verdict raw0 ref0 raw1 nan ≡ Unstable)
+  pub nan_unstable : (gain_verdict nan ref0 raw1 ref1 ≡ Err Unstable) × (gain_verdict raw0 nan raw1 ref1 ≡ Err Unstable) × (gain_verdict raw0 ref0 nan ref1 ≡ Err Unstable) × (gain_verdict raw0 ref0 raw1 nan ≡ Err Unstable)
   unfolding gain_verdict
   nan_unstable = (first _ _ _ (over_nan ref0), first _ _ _ (nan_over raw0), second _ _ _ (over_nan ref1), second _ _ _ (nan_over raw1))

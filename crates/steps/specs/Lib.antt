@@ -1,3 +1,4 @@
+pub mod Error
 pub mod Place
 pub mod Reading
 pub mod Verdict

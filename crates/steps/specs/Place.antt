@@ -72,5 +72,5 @@ ready RefAc flags = holds_rms_lpf flags
 
 -- `if job == JOB_ZERO && job_step < 12 { ik = job_step % 6 }`
 abbrev pub step_ranges : Kind → ℕ → Ranges → Ranges
-step_ranges Zero s r = record { vr = r.vr; ik = cond (ltb s 12) (s % 6) r.ik; v_auto = r.v_auto; i_auto = r.i_auto }
+step_ranges Zero s r = record r { ik = cond (ltb s 12) (s % 6) r.ik }
 step_ranges Gain s r = r

@@ -1,5 +1,5 @@
 -- What a ready frame says at its step: the readings of `pw_job_poll` in the source's order of operations, each rounded to binary32, and the zero job's test for a signal.
-use Rattle.std.specs.Prelude.{Bool, false, cond, ◌||◌, List, ℕ, ◌+◌, ◌-◌, ◌*◌, ltb, ℤ, pos, nat_abs, ◌-ℤ◌, get_or, Float}
+use Rattle.std.specs.Prelude.{Bool, false, cond, ◌||◌, List, ℕ, ◌+◌, ◌-◌, ◌*◌, ltb, ℤ, pos, nat_abs, ◌-ℤ◌, get_or, Float, Result, Ok, Err}
 use Rattle.std.specs.Float.{nan}
 use Rattle.std.specs.Float.Ieee.{lt}
 use Rattle.numbers.specs.Binary32.{◌-f◌, ◌*f◌, ◌/f◌, zero_f, max_of}
@@ -12,6 +12,8 @@ use Rattle.tables.specs.Calibration.{factor, offset}
 use Rattle.state.specs.declared.Corrections.{Corrections}
 use Rattle.takes.specs.Scales.{code_less, rms_root}
 use Rattle.takes.specs.Readings.{full_volts, ad1_gain}
+use Rattle.steps.specs.declared.error.JobError.{JobError}
+use Rattle.steps.specs.declared.error.JobError.TheVariants.{Signal}
 use Rattle.steps.specs.declared.place.Place.{Place}
 use Rattle.steps.specs.declared.place.Place.TheVariants.{ZeroX, ZeroD, ZeroY, Raw, RefDc, RefAc}
 use Rattle.steps.specs.declared.reading.Reading.{Reading}
@@ -39,7 +41,7 @@ zy_of (kept zx zd zy) = zy
 
 -- ---- readings: the main value and the second value
 
-abbrev alone : Float → Reading
+abbrev pub alone : Float → Reading
 alone x = record { x = x; y = zero_f }
 
 -- `lpf as f32` and `ad1 as f32`: a code less no zero
@@ -90,3 +92,7 @@ signal ZeroY old f = lpf_signal old f
 signal Raw old f = false
 signal RefDc old f = false
 signal RefAc old f = false
+
+-- what a frame counts for at step s: `JR_SIGNAL` where it is a signal, else its reading
+abbrev pub counted_reading : Place → ℕ → Calibration → ℕ → Zeros → Codes → Result Reading JobError
+counted_reading p s c vr z f = cond (signal p (old_of z s) f) (Err Signal) (Ok (reading_of p c vr z f))

@@ -1,5 +1,5 @@
 -- What a step's means come to: the second half of `pw_job_poll`.
-use Rattle.std.specs.Prelude.{Bool, not, cond, ◌||◌, ℕ, ℤ, Float}
+use Rattle.std.specs.Prelude.{Bool, not, cond, ◌||◌, ℕ, ℤ, Float, Result, Ok, Err}
 use Rattle.std.specs.Float.{nan, binary32}
 use Rattle.std.specs.Float.Ieee.{lt, le, of_bits, to_signed}
 use Rattle.numbers.specs.Binary32.{◌+f◌, ◌-f◌, ◌*f◌, ◌/f◌, is_finite, abs_of}
@@ -7,10 +7,8 @@ use Rattle.numbers.specs.Convert.{half_f, half_away}
 use Rattle.tables.specs.Bounds.{entry_at}
 use Rattle.tables.specs.Constants.{v_lim, vcal_min, vcal_max_ac, vcal_max_dc, vcal_peak_max, vcal_spread}
 use Rattle.tables.specs.Gain.{plausible}
-use Rattle.steps.specs.declared.verdict.RawVerdict.{RawVerdict}
-use Rattle.steps.specs.declared.verdict.RawVerdict.TheVariants.{Small, Big, Fair}
-use Rattle.steps.specs.declared.verdict.GainVerdict.{GainVerdict}
-use Rattle.steps.specs.declared.verdict.GainVerdict.TheVariants.{Unstable, Outside, Good}
+use Rattle.steps.specs.declared.error.JobError.{JobError}
+use Rattle.steps.specs.declared.error.JobError.TheVariants.{Small, Big, Unstable, Range}
 
 -- `JOB_N as f32`, and the mean of a sum of three
 abbrev pub three_f : Float
@@ -44,12 +42,12 @@ abbrev pub peak : Float → Float → Float
 peak a b = abs_of b +f sqrt2 *f abs_of a
 
 -- "`JR_SMALL` is tested before `JR_BIG`": `m.abs() < VCAL_MIN * lim`, then `m.abs() > max * lim || peak > VCAL_PEAK_MAX * lim`
-unfoldable pub raw_verdict : Bool → ℕ → Float → Float → RawVerdict
+unfoldable pub raw_verdict : Bool → ℕ → Float → Float → Result (Unit {0}) JobError
 raw_verdict dc vr a b =
     let lim = entry_at nan v_lim vr in
     let m = abs_of (part dc a b) in
-    cond (lt m (vcal_min *f lim)) Small
-    (cond (lt (vcal_max dc *f lim) m || lt (vcal_peak_max *f lim) (peak a b)) Big Fair)
+    cond (lt m (vcal_min *f lim)) (Err Small)
+    (cond (lt (vcal_max dc *f lim) m || lt (vcal_peak_max *f lim) (peak a b)) (Err Big) (Ok tt))
 
 -- "The two ratios, their sum and its half are binary32's": `0.5 * (r0 + r1)`
 abbrev pub half_sum : Float → Float → Float
@@ -64,9 +62,9 @@ unfoldable pub rounds_differ : Float → Float → Float → Bool → Bool
 rounds_differ r0 r1 g still = not (is_finite g) || lt (vcal_spread *f abs_of g) (abs_of (r0 -f r1)) || not still
 
 -- "`JR_UNSTABLE` before `JR_RANGE`", which is `!(0.9..=1.1).contains(&g)`
-unfoldable pub ratio_verdict : Float → Float → Float → Bool → GainVerdict
-ratio_verdict r0 r1 g still = cond (rounds_differ r0 r1 g still) Unstable (cond (plausible g) (Good g) Outside)
+unfoldable pub ratio_verdict : Float → Float → Float → Bool → Result Float JobError
+ratio_verdict r0 r1 g still = cond (rounds_differ r0 r1 g still) (Err Unstable) (cond (plausible g) (Ok g) (Err Range))
 
 -- of the two raw means and the two references
-unfoldable pub gain_verdict : Float → Float → Float → Float → GainVerdict
+unfoldable pub gain_verdict : Float → Float → Float → Float → Result Float JobError
 gain_verdict raw0 ref0 raw1 ref1 = ratio_verdict (ref0 /f raw0) (ref1 /f raw1) (half_sum (ref0 /f raw0) (ref1 /f raw1)) (steady raw0 raw1)

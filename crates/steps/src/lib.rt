@@ -2,6 +2,7 @@
 //! what a step's means come to.
 #![tactic(auto)]
 
+pub mod error;
 pub mod place;
 pub mod reading;
 pub mod verdict;

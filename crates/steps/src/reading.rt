@@ -1,7 +1,8 @@
 //! What a ready frame says at its step, and whether it is a signal where the zero job wants none.
 ghost use Rattle.std.specs.Prelude.{◌≡◌};
-ghost use Rattle.steps.specs.Reading.{zeros_in, old_of, raw_reading, ad1_volts, dc_reference, ac_reference, reading_of, distance, lpf_signal, signal};
+ghost use Rattle.steps.specs.Reading.{zeros_in, old_of, alone, raw_reading, ad1_volts, dc_reference, ac_reference, reading_of, distance, lpf_signal, signal, counted_reading};
 
+use crate::error::JobError;
 use crate::place::Place;
 use codes::Codes;
 use state::Corrections;
@@ -13,32 +14,38 @@ use tables::lookups::{dcv_negk, k_acv, kv};
 use takes::scales::{code_less, rms_root, zero_y};
 
 /// The main value and the second value of a frame.
-#[derive(Clone, Copy)]
+#[derive(Clone, Copy, Debug, PartialEq)]
 pub struct Reading {
     pub x: f32,
     pub y: f32,
 }
 
+impl Reading {
+    // The reading of a step that has one value alone.
+    fn alone(x: f32) -> Reading
+        ensures { result ≡ alone x }
+    {
+        Reading { x, y: 0.0 }
+    }
+}
+
 /// The stored zero of a step of the zero job, 0 while none is stored.
+#[tactic(auto, unfolding(crate::specs::Reading::zeros_in))]
 pub fn old_zero(corrections: Corrections, step: u8) -> i16
     ensures { result ≡ old_of (zeros_in corrections) step }
 {
-    let zx = corrections.zx;
-    let zd = corrections.zd;
-    let zy = corrections.zy;
     if !corrections.zero_ok {
         return 0;
     }
-    if step < 6 {
-        return zx[step as usize];
+    match step {
+        0..=5 => corrections.zx[step as usize],
+        6..=11 => corrections.zd[(step - 6) as usize],
+        _ => corrections.zy,
     }
-    if step < 12 {
-        return zd[(step - 6) as usize];
-    }
-    zy
 }
 
 // Volts of the V channel, AC and DC, with this zero and no gain.
+#[tactic(auto, unfolding(crate::specs::Reading::raw_reading))]
 fn raw_reading(vr: u8, zero: i16, codes: Codes) -> Reading
     ensures { result ≡ raw_reading vr zero codes }
 {
@@ -49,6 +56,7 @@ fn raw_reading(vr: u8, zero: i16, codes: Codes) -> Reading
 }
 
 // Volts of the AD1 code by the factory's DC V words.
+#[tactic(auto, unfolding(crate::specs::Reading::ad1_volts))]
 fn ad1_volts(calibration: Calibration, vr: u8, ad1: i32) -> f32
     ensures { result ≡ ad1_volts calibration vr ad1 }
 {
@@ -60,6 +68,7 @@ fn ad1_volts(calibration: Calibration, vr: u8, ad1: i32) -> f32
 }
 
 // The DC reference: what is below zero has a factor of its own.
+#[tactic(auto, unfolding(crate::specs::Reading::dc_reference))]
 fn dc_reference(calibration: Calibration, vr: u8, ad1: i32) -> f32
     ensures { result ≡ dc_reference calibration vr ad1 }
 {
@@ -69,6 +78,7 @@ fn dc_reference(calibration: Calibration, vr: u8, ad1: i32) -> f32
 }
 
 // The AC reference by the factory's AC V words.
+#[tactic(auto, unfolding(crate::specs::Reading::ac_reference))]
 fn ac_reference(calibration: Calibration, vr: u8, root: f32) -> f32
     ensures { result ≡ ac_reference calibration vr root }
 {
@@ -79,6 +89,7 @@ fn ac_reference(calibration: Calibration, vr: u8, root: f32) -> f32
 }
 
 /// The reading of a frame at a step, in the V range `vr`.
+#[tactic(auto, using(crate::proofs::Zeros::same_zero), unfolding(crate::specs::Reading::reading_of))]
 pub fn reading_of(
     place: Place,
     calibration: Calibration,
@@ -89,61 +100,55 @@ pub fn reading_of(
     ensures { result ≡ reading_of place calibration vr (zeros_in corrections) codes }
 {
     match place {
-        Place::ZeroX => Reading {
-            x: code_less(codes.lpf, 0),
-            y: 0.0,
-        },
-        Place::ZeroD => Reading {
-            x: code_less(codes.ad1, 0),
-            y: 0.0,
-        },
-        Place::ZeroY => Reading {
-            x: code_less(codes.lpf, 0),
-            y: 0.0,
-        },
+        Place::ZeroX | Place::ZeroY => Reading::alone(code_less(codes.lpf, 0)),
+        Place::ZeroD => Reading::alone(code_less(codes.ad1, 0)),
         Place::Raw => raw_reading(vr, zero_y(corrections), codes),
-        Place::RefDc => Reading {
-            x: dc_reference(calibration, vr, codes.ad1),
-            y: 0.0,
-        },
-        Place::RefAc => {
-            let root = rms_root(codes.rms);
-            Reading {
-                x: ac_reference(calibration, vr, root),
-                y: 0.0,
-            }
-        }
+        Place::RefDc => Reading::alone(dc_reference(calibration, vr, codes.ad1)),
+        Place::RefAc => Reading::alone(ac_reference(calibration, vr, rms_root(codes.rms))),
     }
 }
 
 // How far a code lies from the old zero.
-fn distance(code: i32, old: i16) -> u64
+#[tactic(auto, unfolding(crate::specs::Reading::distance))]
+fn distance(code: i32, old: i16) -> u32
     ensures { result ≡ distance code old }
 {
-    let d = (code as i64) - (old as i64);
-    if d < 0 { (0 - d) as u64 } else { d as u64 }
+    code.abs_diff(i32::from(old))
 }
 
 // Whether the root or the LPF code is a signal where a zero is measured.
+#[tactic(auto, unfolding(crate::specs::Reading::lpf_signal))]
 fn lpf_signal(old: i16, codes: Codes) -> bool
     ensures { result ≡ lpf_signal old codes }
 {
-    if rms_root(codes.rms) > ZERO_MAX_RMS {
-        return true;
-    }
-    distance(codes.lpf, old) > (ZERO_MAX_LPF as u64)
+    rms_root(codes.rms) > ZERO_MAX_RMS || distance(codes.lpf, old) > ZERO_MAX_LPF as u32
 }
 
 /// Whether a frame is a signal where the zero job wants none; the gain job has no such test.
+#[tactic(auto, unfolding(crate::specs::Reading::signal))]
 pub fn is_signal(place: Place, old: i16, codes: Codes) -> bool
     ensures { result ≡ signal place old codes }
 {
     match place {
-        Place::ZeroX => lpf_signal(old, codes),
-        Place::ZeroD => distance(codes.ad1, old) > (ZERO_MAX_AD1 as u64),
-        Place::ZeroY => lpf_signal(old, codes),
-        Place::Raw => false,
-        Place::RefDc => false,
-        Place::RefAc => false,
+        Place::ZeroX | Place::ZeroY => lpf_signal(old, codes),
+        Place::ZeroD => distance(codes.ad1, old) > ZERO_MAX_AD1 as u32,
+        Place::Raw | Place::RefDc | Place::RefAc => false,
     }
+}
+
+/// What a ready frame counts for at step `step`: its reading, but where it is a signal and none may be.
+pub fn counted_reading(
+    place: Place,
+    step: u8,
+    calibration: Calibration,
+    vr: u8,
+    corrections: Corrections,
+    codes: Codes,
+) -> Result<Reading, JobError>
+    ensures { result ≡ counted_reading place step calibration vr (zeros_in corrections) codes }
+{
+    if is_signal(place, old_zero(corrections, step), codes) {
+        return Err(JobError::Signal);
+    }
+    Ok(reading_of(place, calibration, vr, corrections, codes))
 }

@@ -2,6 +2,7 @@
 ghost use Rattle.std.specs.Prelude.{◌≡◌};
 ghost use Rattle.steps.specs.Verdict.{zero_mean, is_dc, part, vcal_max, raw_verdict, rounds_differ, ratio_verdict, gain_verdict};
 
+use crate::error::JobError;
 use tables::calibration::plausible;
 use tables::constants::{VCAL_MAX_AC, VCAL_MAX_DC, VCAL_MIN, VCAL_PEAK_MAX, VCAL_SPREAD};
 use tables::lookups::v_lim;
@@ -9,37 +10,16 @@ use tables::lookups::v_lim;
 // The root of two, of core's constants.
 const SQRT_2: f32 = 1.41421356;
 
-/// Of a raw step.
-#[derive(Clone, Copy)]
-pub enum RawVerdict {
-    /// too small: the job ends with JR_SMALL
-    Small,
-    /// too large: JR_BIG
-    Big,
-    /// fit to go on with
-    Fair,
-}
-
-/// Of the whole gain job.
-#[derive(Clone, Copy)]
-pub enum GainVerdict {
-    /// the two rounds differ, or the half sum is not finite: JR_UNSTABLE
-    Unstable,
-    /// the gain does not lie from 0.9 to 1.1: JR_RANGE
-    Outside,
-    /// the gain to store: JR_OK
-    Good(f32),
-}
-
 /// The zero of a mean: rounded half away from zero, held to 16 bits.
+#[tactic(auto, unfolding(crate::specs::Verdict::zero_mean))]
 pub fn zero_mean(mean: f32) -> i16
     ensures { result ≡ zero_mean mean }
 {
-    let rounded = numbers::half_away(mean);
-    numbers::f32_to_i16(rounded)
+    numbers::f32_to_i16(numbers::half_away(mean))
 }
 
 /// Whether the voltage is DC, by the AC mean a and the DC mean b of step 0.
+#[tactic(auto, unfolding(crate::specs::Verdict::is_dc))]
 pub fn is_dc(a: f32, b: f32) -> bool
     ensures { result ≡ is_dc a b }
 {
@@ -61,63 +41,54 @@ fn vcal_max(dc: bool) -> f32
 }
 
 /// The verdict on the means of a raw step in the V range `vr`: small is tested before big.
-pub fn raw_verdict(dc: bool, vr: u8, a: f32, b: f32) -> RawVerdict
+#[tactic(auto, unfolding(crate::specs::Verdict::raw_verdict))]
+pub fn raw_verdict(dc: bool, vr: u8, a: f32, b: f32) -> Result<(), JobError>
     ensures { result ≡ raw_verdict dc vr a b }
 {
     let lim = v_lim(vr);
     let m = numbers::abs(part_of(dc, a, b));
-    let most = vcal_max(dc);
     let peak = numbers::abs(b) + SQRT_2 * numbers::abs(a);
     if m < VCAL_MIN * lim {
-        return RawVerdict::Small;
+        return Err(JobError::Small);
     }
-    if m > most * lim {
-        return RawVerdict::Big;
+    if m > vcal_max(dc) * lim || peak > VCAL_PEAK_MAX * lim {
+        return Err(JobError::Big);
     }
-    if peak > VCAL_PEAK_MAX * lim {
-        return RawVerdict::Big;
-    }
-    RawVerdict::Fair
+    Ok(())
 }
 
 // Whether the two rounds differ, by their ratios r0 and r1, the half sum g of these, which must be
 // finite, and whether the raw means are steady.
+#[tactic(auto, unfolding(crate::specs::Verdict::rounds_differ))]
 fn rounds_differ(r0: f32, r1: f32, g: f32, steady: bool) -> bool
     ensures { result ≡ rounds_differ r0 r1 g steady }
 {
-    let apart = numbers::abs(r0 - r1);
-    let spread = VCAL_SPREAD * numbers::abs(g);
-    if !numbers::is_finite(g) {
-        return true;
-    }
-    if apart > spread {
-        return true;
-    }
-    !steady
+    !numbers::is_finite(g) || numbers::abs(r0 - r1) > VCAL_SPREAD * numbers::abs(g) || !steady
 }
 
 // The verdict on the same: unstable is tested before the gain's bounds.
-fn ratio_verdict(r0: f32, r1: f32, g: f32, steady: bool) -> GainVerdict
+#[tactic(auto, unfolding(crate::specs::Verdict::ratio_verdict))]
+fn ratio_verdict(r0: f32, r1: f32, g: f32, steady: bool) -> Result<f32, JobError>
     ensures { result ≡ ratio_verdict r0 r1 g steady }
 {
     if rounds_differ(r0, r1, g, steady) {
-        return GainVerdict::Unstable;
+        return Err(JobError::Unstable);
     }
     if plausible(g) {
-        GainVerdict::Good(g)
+        Ok(g)
     } else {
-        GainVerdict::Outside
+        Err(JobError::Range)
     }
 }
 
-/// The verdict on the raw means and the references of both rounds.
-pub fn gain_verdict(raw0: f32, ref0: f32, raw1: f32, ref1: f32) -> GainVerdict
+/// The gain to store, or the verdict against it, by the raw means and the references of both rounds.
+#[tactic(auto, unfolding(crate::specs::Verdict::gain_verdict))]
+pub fn gain_verdict(raw0: f32, ref0: f32, raw1: f32, ref1: f32) -> Result<f32, JobError>
     ensures { result ≡ gain_verdict raw0 ref0 raw1 ref1 }
 {
     let r0 = ref0 / raw0;
     let r1 = ref1 / raw1;
     let g = 0.5 * (r0 + r1);
-    let spread = VCAL_SPREAD * numbers::abs(raw0);
-    let steady = numbers::abs(raw0 - raw1) <= spread;
+    let steady = numbers::abs(raw0 - raw1) <= VCAL_SPREAD * numbers::abs(raw0);
     ratio_verdict(r0, r1, g, steady)
 }

@@ -1,9 +1,9 @@
--- A number held to a bound: at the bound, below it, above it.
-use mathlib.Core.Path.{◌≡◌, refl, ap}
+-- A number held to a bound, and the parts of a current range.
+use mathlib.Core.Path.{◌≡◌, refl}
 use mathlib.Core.Bool.{Bool, true, false, cond}
 use Prim.Native.Nat.{ℕ, ◌≤◌}
 use native.Mathlib.Omega.{arith}
-use borrow.Author.Tests.{ltb-true, ltb-false, le-ltb}
+use borrow.Author.Tests.{ltb-true}
 use lib.Dec.{ltb}
 use Rattle.tables.specs.Bounds.{at_most}
 use Rattle.tables.specs.Ranges.{iu_ir}
@@ -15,18 +15,6 @@ at_most_law m n = go (ltb n m) refl
     go : (t : Bool) → ltb n m ≡ t → cond t n m ≤ m
     go true e = omega (arith, ltb-true n m e)
     go false e = omega arith
-
-pub kept : (m n : ℕ) → n ≤ m → at_most m n ≡ n
-unfolding at_most
-kept m n h = go (ltb n m) refl
-  where
-    go : (t : Bool) → ltb n m ≡ t → cond t n m ≡ n
-    go true e = refl
-    go false e = omega (arith, ltb-false n m e)
-
-pub cut : (m n : ℕ) → m ≤ n → at_most m n ≡ m
-unfolding at_most
-cut m n h = ap (λ (t : Bool). cond t n m) (le-ltb n m h)
 
 -- a unit is 0 to 2, a gain index 0 or 1
 pub iu_most : (k : ℕ) → (iu_ir k).iu ≤ 2

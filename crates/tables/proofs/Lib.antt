@@ -1,12 +1,8 @@
 pub mod Both
 pub mod Below
 pub mod Held
-pub mod Steps
 pub mod Every
-pub mod Copy
 pub mod Words
-pub mod Gains
-pub mod KindOfRow
 pub mod Walk
 pub mod WindowRule
 pub mod Offsets

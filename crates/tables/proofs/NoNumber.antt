@@ -9,20 +9,20 @@ use lib.Ieee.{Float, nan, inf, add, sub, mul, neg, sum, lt, of_bits, round}
 use Rattle.numbers.proofs.NoNumber.{plus_nan}
 use Rattle.numbers.proofs.Order.{lt_numbers, le_numbers, lt→nle}
 use Rattle.tables.proofs.Both.{and_l, and_r, holds}
-use Rattle.tables.specs.Bounds.{every}
+use Rattle.std.specs.List.{list_all}
 use Rattle.tables.proofs.Every.{each}
 use Rattle.tables.specs.declared.window.Side.{Side}
 use Rattle.tables.specs.declared.window.Side.TheVariants.{Upper, Lower}
-use Rattle.tables.specs.declared.window.Window.TheVariants.{NoWindow}
+use Rattle.std.specs.Prelude.{None}
 use Rattle.tables.specs.Window.{levels, away, clears, nearer, inside, cmp_window}
 use Rattle.tables.specs.Rule.{level}
 use Rattle.tables.proofs.WindowRule.{twelve, none_exactly}
 
-pub middle_nan : (a : Float) → cmp_window nan a ≡ NoWindow
+pub middle_nan : (a : Float) → cmp_window nan a ≡ None
 unfolding clears away add sum
 middle_nan a = (none_exactly nan a).1 (inl (λ j s. (le_numbers nan (level Upper j) s.1).0))
 
-pub swing_nan : (c : Float) → cmp_window c nan ≡ NoWindow
+pub swing_nan : (c : Float) → cmp_window c nan ≡ None
 unfolding inside nearer away mul of_bits
 swing_nan c =
     (none_exactly c nan).1
@@ -32,8 +32,8 @@ swing_nan c =
 abbrev between : Float → Bool
 between v = lt v (inf false) && lt (inf true) v
 
-all_between : (side : Side) → T (every between (levels side))
-unfolding levels every lt round
+all_between : (side : Side) → T (list_all between (levels side))
+unfolding levels lt round
 all_between Upper = tt
 all_between Lower = tt
 
@@ -46,7 +46,7 @@ upper_between j l = holds (lt (level Upper j) (inf false)) (and_l (lt (level Upp
 lower_between : (j : ℕ) → j < 12 → lt (inf true) (level Lower j) ≡ true
 lower_between j l = holds (lt (inf true) (level Lower j)) (and_r (lt (level Lower j) (inf false)) (lt (inf true) (level Lower j)) (between_at Lower j l))
 
-pub middle_infinite : (s : Bool) (a : Float) → cmp_window (inf s) a ≡ NoWindow
+pub middle_infinite : (s : Bool) (a : Float) → cmp_window (inf s) a ≡ None
 unfolding clears away add sub sum neg of_bits
 middle_infinite false a =
     (none_exactly (inf false) a).1 (inl (λ j s. true≢false (sym s.1 ∙ lt→nle (level Upper j) (inf false) (upper_between j s.0))))

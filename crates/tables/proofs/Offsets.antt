@@ -3,9 +3,8 @@ use mathlib.Core.Path.{◌≡◌, refl}
 use mathlib.Core.Bool.{true}
 use mathlib.Core.List.{◌++◌}
 use lib.ListN.{length}
-use Rattle.tables.specs.Bounds.{every}
+use Rattle.std.specs.List.{list_all}
 use Rattle.tables.specs.Offsets.{factors, offsets, begins_there}
 
-pub checked : (every begins_there (factors ++ offsets) ≡ true) × (length factors ≡ 26) × (length offsets ≡ 26)
-unfolding every
+pub checked : (list_all begins_there (factors ++ offsets) ≡ true) × (length factors ≡ 26) × (length offsets ≡ 26)
 checked = (refl, refl, refl)

@@ -14,15 +14,13 @@ use Rattle.numbers.specs.Binary32.{◌*f◌}
 use Rattle.numbers.proofs.Order.{le_numbers, lt_irrefl, lt_trans, nlt→le, le_lt_trans, lt_le_trans, le_antisym, eq_comm}
 use Rattle.tables.proofs.Below.{up_to}
 use Rattle.tables.proofs.Both.{and_l, and_r}
-use Rattle.tables.specs.Bounds.{every}
+use Rattle.std.specs.List.{list_all}
 use Rattle.tables.proofs.Every.{each}
 use Rattle.tables.specs.declared.window.Side.{Side}
 use Rattle.tables.specs.declared.window.Side.TheVariants.{Upper, Lower}
-use Rattle.tables.specs.declared.window.Pick.{Pick}
-use Rattle.tables.specs.declared.window.Pick.TheVariants.{NoEntry, Entry}
-use Rattle.tables.specs.declared.window.Window.{Window}
-use Rattle.tables.specs.declared.window.Window.TheVariants.{NoWindow, R21}
-use Rattle.tables.specs.Window.{codes, levels, away, clears, nearer, picked, walk, margin, reach, nearest, inside, joined, cmp_window}
+use Rattle.tables.specs.declared.window.Entry.{Entry}
+use Rattle.std.specs.Prelude.{Option, Some, None}
+use Rattle.tables.specs.Window.{codes, levels, away, clears, nearer, picked, entry_of, walk, margin, reach, nearest, inside, joined, cmp_window}
 use Rattle.tables.specs.Rule.{level, Serves, NoEntryServes, as_near, NearestServes, Pair}
 
 -- ---- the order seen from each side
@@ -60,11 +58,11 @@ module _ (side : Side) (limit : Float) (ks : List ℕ) (vs : List Float) where
   ok v = clears side limit v
 
   -- what is known of the first n entries once b was picked from them
-  abbrev Known : ℕ → Pick → Type 0
-  Known n NoEntry = (i : ℕ) → i < n → ok (get_or vs i nan) ≡ false
-  Known n (Entry k v) =
-      (j : ℕ) × (j < n) × (k ≡ get_or ks j 0) × (v ≡ get_or vs j nan) × (ok v ≡ true)
-      × ((i : ℕ) → i < n → ok (get_or vs i nan) ≡ true → nearer side (get_or vs i nan) v ≡ false)
+  abbrev Known : ℕ → Option Entry → Type 0
+  Known n None = (i : ℕ) → i < n → ok (get_or vs i nan) ≡ false
+  Known n (Some e) =
+      (j : ℕ) × (j < n) × (e ≡ entry_of ks vs j) × (ok e.level ≡ true)
+      × ((i : ℕ) → i < n → ok (get_or vs i nan) ≡ true → nearer side (get_or vs i nan) e.level ≡ false)
 
   further : (x y z : Float) → nearer side x z ≡ false → nearer side y z ≡ true → nearer side x y ≡ false
   further x y z e h = go (nearer side x y) refl
@@ -77,25 +75,28 @@ module _ (side : Side) (limit : Float) (ks : List ℕ) (vs : List Float) where
   abbrev NoneNearer : Float → ℕ → Type 0
   NoneNearer v i = ok (get_or vs i nan) ≡ true → nearer side (get_or vs i nan) v ≡ false
 
-  known_step : (n : ℕ) (b : Pick) → Known n b → Known (suc n) (picked side limit b (get_or ks n 0) (get_or vs n nan))
+  known_step : (n : ℕ) (b : Option Entry) → Known n b → Known (suc n) (picked side limit b (entry_of ks vs n))
   unfolding picked
-  known_step n NoEntry h = go (ok (get_or vs n nan)) refl
+  known_step n None h = go (ok (get_or vs n nan)) refl
     where
       w : Float
       w = get_or vs n nan
 
-      go : (t : Bool) → ok w ≡ t → Known (suc n) (cond t (Entry (get_or ks n 0) w) NoEntry)
-      go true e = (n, omega arith, refl, refl, e, up_to (NoneNearer w) n (λ i l o. absurd (true≢false (sym o ∙ h i l))) (λ o. near_self side w))
+      go : (t : Bool) → ok w ≡ t → Known (suc n) (cond t (Some (entry_of ks vs n)) None)
+      go true e = (n, omega arith, refl, e, up_to (NoneNearer w) n (λ i l o. absurd (true≢false (sym o ∙ h i l))) (λ o. near_self side w))
       go false e = up_to (λ (i : ℕ). ok (get_or vs i nan) ≡ false) n h e
-  known_step n (Entry k v) h = go (ok (get_or vs n nan)) (nearer side (get_or vs n nan) v) refl refl
+  known_step n (Some b) h = go (ok (get_or vs n nan)) (nearer side (get_or vs n nan) b.level) refl refl
     where
       w : Float
       w = get_or vs n nan
 
-      go : (t u : Bool) → ok w ≡ t → nearer side w v ≡ u → Known (suc n) (cond t (cond u (Entry (get_or ks n 0) w) (Entry k v)) (Entry k v))
-      go true true e f = (n, omega arith, refl, refl, e, up_to (NoneNearer w) n (λ i l o. further (get_or vs i nan) w v (h.5 i l o) f) (λ o. near_self side w))
-      go true false e f = (h.0, omega (arith, h.1), h.2, h.3, h.4, up_to (NoneNearer v) n h.5 (λ o. f))
-      go false u e f = (h.0, omega (arith, h.1), h.2, h.3, h.4, up_to (NoneNearer v) n h.5 (λ o. absurd (true≢false (sym o ∙ e))))
+      v : Float
+      v = b.level
+
+      go : (t u : Bool) → ok w ≡ t → nearer side w v ≡ u → Known (suc n) (cond t (cond u (Some (entry_of ks vs n)) (Some b)) (Some b))
+      go true true e f = (n, omega arith, refl, e, up_to (NoneNearer w) n (λ i l o. further (get_or vs i nan) w v (h.4 i l o) f) (λ o. near_self side w))
+      go true false e f = (h.0, omega (arith, h.1), h.2, h.3, up_to (NoneNearer v) n h.4 (λ o. f))
+      go false u e f = (h.0, omega (arith, h.1), h.2, h.3, up_to (NoneNearer v) n h.4 (λ o. absurd (true≢false (sym o ∙ e))))
 
   known : (n : ℕ) → Known n (walk side limit ks vs n)
   unfolding walk
@@ -105,48 +106,51 @@ module _ (side : Side) (limit : Float) (ks : List ℕ) (vs : List Float) where
 -- ---- with the swing's test
 
 -- nothing was picked, or what was picked lies outside the swing
-abbrev Missed : Side → Float → Float → Pick → Type 0
-Missed side c a NoEntry = Unit
-Missed side c a (Entry k v) = inside side c a v ≡ false
+abbrev Missed : Side → Float → Float → Option Entry → Type 0
+Missed side c a None = Unit
+Missed side c a (Some e) = inside side c a e.level ≡ false
 
 -- entry j was picked, and lies inside it
-abbrev Hit : Side → Float → Float → Pick → ℕ → Type 0
-Hit side c a b j = (b ≡ Entry (get_or (codes side) j 0) (level side j)) × (inside side c a (level side j) ≡ true)
+abbrev Hit : Side → Float → Float → Option Entry → ℕ → Type 0
+Hit side c a b j = (b ≡ Some (entry_of (codes side) (levels side) j)) × (inside side c a (level side j) ≡ true)
 
-abbrev Outcome : Side → Float → Float → Pick → Type 0
+abbrev Outcome : Side → Float → Float → Option Entry → Type 0
 Outcome side c a b = (Missed side c a b × NoEntryServes side c a) ⊎ ((j : ℕ) × Hit side c a b j × NearestServes side c a j)
 
 module _ (side : Side) (c a : Float) where
   abbrev limit : Float
   limit = away side c margin
 
-  outcome_of : (b : Pick) → Known side limit (codes side) (levels side) 12 b → Outcome side c a b
-  outcome_of NoEntry h = inl (tt, λ j s. true≢false (sym s.1 ∙ h j s.0))
-  outcome_of (Entry k v) h = go (inside side c a v) refl
+  outcome_of : (b : Option Entry) → Known side limit (codes side) (levels side) 12 b → Outcome side c a b
+  outcome_of None h = inl (tt, λ j s. true≢false (sym s.1 ∙ h j s.0))
+  outcome_of (Some b) h = go (inside side c a b.level) refl
     where
-      as_picked : (i : ℕ) → Serves side c a i → as_near side v (level side i) ≡ true
-      as_picked i s = turn side limit (level side i) v s.1 h.4 (h.5 i s.0 s.1)
+      level-j : b.level ≡ level side h.0
+      level-j = ap (λ (e : Entry). e.level) h.2
 
-      go : (t : Bool) → inside side c a v ≡ t → Outcome side c a (Entry k v)
+      as_picked : (i : ℕ) → Serves side c a i → as_near side b.level (level side i) ≡ true
+      as_picked i s = turn side limit (level side i) b.level s.1 h.3 (h.4 i s.0 s.1)
+
+      go : (t : Bool) → inside side c a b.level ≡ t → Outcome side c a (Some b)
       go true e =
           let j = h.0 in
-          let in-j : inside side c a (level side j) ≡ true = subst (λ (x : Float). inside side c a x ≡ true) h.3 e in
+          let in-j : inside side c a (level side j) ≡ true = subst (λ (x : Float). inside side c a x ≡ true) level-j e in
           inr (
             j,
-            (ap (λ (x : ℕ). Entry x v) h.2 ∙ ap (Entry (get_or (codes side) j 0)) h.3, in-j),
+            (ap Some h.2, in-j),
             (
-              (h.1, subst (λ (x : Float). clears side limit x ≡ true) h.3 h.4, in-j),
-              λ i s. subst (λ (x : Float). as_near side x (level side i) ≡ true) h.3 (as_picked i s),
+              (h.1, subst (λ (x : Float). clears side limit x ≡ true) level-j h.3, in-j),
+              λ i s. subst (λ (x : Float). as_near side x (level side i) ≡ true) level-j (as_picked i s),
             ),
           )
-      go false e = inl (e, λ i s. true≢false (sym (still_inside side c a (level side i) v (as_picked i s) s.2) ∙ e))
+      go false e = inl (e, λ i s. true≢false (sym (still_inside side c a (level side i) b.level (as_picked i s) s.2) ∙ e))
 
   outcome : Outcome side c a (nearest side c)
   outcome = outcome_of (nearest side c) (known side limit (codes side) (levels side) 12)
 
 -- ---- each table has each level once: a computed test
 abbrev others : Float → List Float → Bool
-others v ws = every (λ (w : Float). not (eq v w)) ws
+others v ws = list_all (λ (w : Float). not (eq v w)) ws
 
 abbrev once : List Float → Bool
 once [] = true
@@ -167,7 +171,7 @@ one_place (v ∷ vs) (suc i) zero h l m e = absurd (other v vs i (and_l (others 
 one_place (v ∷ vs) (suc i) (suc j) h l m e = ap suc (one_place vs i j (and_r (others v vs) (once vs) h) (omega arith) (omega arith) e)
 
 levels_once : (side : Side) → T (once (levels side))
-unfolding levels every eq round
+unfolding levels eq round
 levels_once Upper = tt
 levels_once Lower = tt
 
@@ -184,40 +188,40 @@ same side c a i k p q =
 
 -- ---- the two picks joined
 module _ (c a : Float) where
-  missed_up : (b d : Pick) → Missed Upper c a b → joined c a b d ≡ NoWindow
+  missed_up : (b d : Option Entry) → Missed Upper c a b → joined c a b d ≡ None
   unfolding joined
-  missed_up NoEntry d h = refl
-  missed_up (Entry k v) NoEntry h = refl
-  missed_up (Entry k v) (Entry l w) h = ap (λ (t : Bool). cond (t && inside Lower c a w) (R21 (k * 16 + l)) NoWindow) h
+  missed_up None d h = refl
+  missed_up (Some high) None h = refl
+  missed_up (Some high) (Some low) h = ap (λ (t : Bool). cond (t && inside Lower c a low.level) (Some (high.code * 16 + low.code)) None) h
 
-  missed_down : (b d : Pick) → Missed Lower c a d → joined c a b d ≡ NoWindow
+  missed_down : (b d : Option Entry) → Missed Lower c a d → joined c a b d ≡ None
   unfolding joined
-  missed_down NoEntry d h = refl
-  missed_down (Entry k v) NoEntry h = refl
-  missed_down (Entry k v) (Entry l w) h = ap (λ (t : Bool). cond (inside Upper c a v && t) (R21 (k * 16 + l)) NoWindow) h ∙ go (inside Upper c a v)
+  missed_down None d h = refl
+  missed_down (Some high) None h = refl
+  missed_down (Some high) (Some low) h = ap (λ (t : Bool). cond (inside Upper c a high.level && t) (Some (high.code * 16 + low.code)) None) h ∙ go (inside Upper c a high.level)
     where
-      go : (t : Bool) → cond (t && false) (R21 (k * 16 + l)) NoWindow ≡ NoWindow
+      go : (t : Bool) → cond {A = Option ℕ} (t && false) (Some (high.code * 16 + low.code)) None ≡ None
       go true = refl
       go false = refl
 
-  hit_both : (b d : Pick) (i j : ℕ) → Hit Upper c a b i → Hit Lower c a d j → joined c a b d ≡ R21 (get_or (codes Upper) i 0 * 16 + get_or (codes Lower) j 0)
+  hit_both : (b d : Option Entry) (i j : ℕ) → Hit Upper c a b i → Hit Lower c a d j → joined c a b d ≡ Some (get_or (codes Upper) i 0 * 16 + get_or (codes Lower) j 0)
   unfolding joined
   hit_both b d i j g h =
-      let w = R21 (get_or (codes Upper) i 0 * 16 + get_or (codes Lower) j 0) in
-      ap (λ (x : Pick). joined c a x d) g.0 ∙ ap (joined c a (Entry (get_or (codes Upper) i 0) (level Upper i))) h.0
-      ∙ ap (λ (t : Bool). cond (t && inside Lower c a (level Lower j)) w NoWindow) g.1
-      ∙ ap (λ (t : Bool). cond t w NoWindow) h.1
+      let w = Some (get_or (codes Upper) i 0 * 16 + get_or (codes Lower) j 0) in
+      ap (λ (x : Option Entry). joined c a x d) g.0 ∙ ap (joined c a (Some (entry_of (codes Upper) (levels Upper) i))) h.0
+      ∙ ap (λ (t : Bool). cond (t && inside Lower c a (level Lower j)) w None) g.1
+      ∙ ap (λ (t : Bool). cond t w None) h.1
 
   abbrev Cases : Type 0
-  Cases = ((cmp_window c a ≡ NoWindow) × (NoEntryServes Upper c a ⊎ NoEntryServes Lower c a)) ⊎ ((w : ℕ) × (cmp_window c a ≡ R21 w) × Pair c a w)
+  Cases = ((cmp_window c a ≡ None) × (NoEntryServes Upper c a ⊎ NoEntryServes Lower c a)) ⊎ ((w : ℕ) × (cmp_window c a ≡ Some w) × Pair c a w)
 
   cases : Cases
   unfolding cmp_window
   cases = go (outcome Upper c a) (outcome Lower c a)
     where
       go : Outcome Upper c a (nearest Upper c) → Outcome Lower c a (nearest Lower c)
-          → ((joined c a (nearest Upper c) (nearest Lower c) ≡ NoWindow) × (NoEntryServes Upper c a ⊎ NoEntryServes Lower c a))
-          ⊎ ((w : ℕ) × (joined c a (nearest Upper c) (nearest Lower c) ≡ R21 w) × Pair c a w)
+          → ((joined c a (nearest Upper c) (nearest Lower c) ≡ None) × (NoEntryServes Upper c a ⊎ NoEntryServes Lower c a))
+          ⊎ ((w : ℕ) × (joined c a (nearest Upper c) (nearest Lower c) ≡ Some w) × Pair c a w)
       go (inl p) q = inl (missed_up (nearest Upper c) (nearest Lower c) p.0, inl p.1)
       go (inr p) (inl q) = inl (missed_down (nearest Upper c) (nearest Lower c) q.0, inr q.1)
       go (inr p) (inr q) =
@@ -239,31 +243,31 @@ module _ (c a : Float) where
       ∙ ap (λ (x : ℕ). get_or (codes Upper) q.0 0 * 16 + get_or (codes Lower) x 0) (same Lower c a p.1 q.1 p.3 q.3)
       ∙ sym q.4
 
-  apart : (r : Window) (w : ℕ) → r ≡ NoWindow → r ≡ R21 w → ⊥
+  apart : (r : Option ℕ) (w : ℕ) → r ≡ None → r ≡ Some w → ⊥
   apart r w p q = let z : ◌≡◌ {A = ℕ} 0 1 = cc in omega arith
 
-  code_one : (r : Window) (v w : ℕ) → r ≡ R21 v → r ≡ R21 w → v ≡ w
+  code_one : (r : Option ℕ) (v w : ℕ) → r ≡ Some v → r ≡ Some w → v ≡ w
   code_one r v w p q = cc
 
   -- ---- THE RULE
-  pub none_exactly : (cmp_window c a ≡ NoWindow) ↔ (NoEntryServes Upper c a ⊎ NoEntryServes Lower c a)
+  pub none_exactly : (cmp_window c a ≡ None) ↔ (NoEntryServes Upper c a ⊎ NoEntryServes Lower c a)
   none_exactly = (there cases, back cases)
     where
-      there : Cases → cmp_window c a ≡ NoWindow → NoEntryServes Upper c a ⊎ NoEntryServes Lower c a
+      there : Cases → cmp_window c a ≡ None → NoEntryServes Upper c a ⊎ NoEntryServes Lower c a
       there (inl p) e = p.1
       there (inr p) e = absurd (apart (cmp_window c a) p.0 e p.1)
 
-      back : Cases → NoEntryServes Upper c a ⊎ NoEntryServes Lower c a → cmp_window c a ≡ NoWindow
+      back : Cases → NoEntryServes Upper c a ⊎ NoEntryServes Lower c a → cmp_window c a ≡ None
       back (inl p) n = p.0
       back (inr p) n = absurd (clash p.0 p.2 n)
 
-  pub otherwise_nearest : (w : ℕ) → (cmp_window c a ≡ R21 w) ↔ Pair c a w
+  pub otherwise_nearest : (w : ℕ) → (cmp_window c a ≡ Some w) ↔ Pair c a w
   otherwise_nearest w = (there cases, back cases)
     where
-      there : Cases → cmp_window c a ≡ R21 w → Pair c a w
+      there : Cases → cmp_window c a ≡ Some w → Pair c a w
       there (inl p) e = absurd (apart (cmp_window c a) w p.0 e)
       there (inr p) e = subst (Pair c a) (code_one (cmp_window c a) p.0 w p.1 e) p.2
 
-      back : Cases → Pair c a w → cmp_window c a ≡ R21 w
+      back : Cases → Pair c a w → cmp_window c a ≡ Some w
       back (inl p) q = absurd (clash w q p.1)
-      back (inr p) q = p.1 ∙ ap R21 (one_pair p.0 w p.2 q)
+      back (inr p) q = p.1 ∙ ap Some (one_pair p.0 w p.2 q)

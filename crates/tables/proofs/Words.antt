@@ -1,13 +1,12 @@
--- A calibration word as a number: which patterns `cal` reads, and what it answers.
-use mathlib.Core.Path.{◌≡◌, refl, sym, ap, ◌∙◌, subst}
+-- A calibration word as a number: which patterns `cal` reads.
+use mathlib.Core.Path.{◌≡◌, refl, sym, subst}
 use mathlib.Core.Bool.{Bool, true, false, cond, not, ◌&&◌}
-use Prim.Native.Nat.{ℕ, ◌/◌, ◌%◌, ◌≤◌, ◌<◌}
-use borrow.Author.Tests.{lt-ltb, le-ltb, ne_eqb}
-use lib.Dec.{T, eqb, ltb, leb}
+use Prim.Native.Nat.{ℕ, ◌/◌, ◌%◌}
+use borrow.Author.Tests.{ne_eqb}
+use lib.Dec.{T, eqb, leb}
 use lib.Ieee.{Float, nan, inf, fin, binary32, lt, of_bits, of_fields, nan_bits}
 use Rattle.numbers.specs.Binary32.{is_finite, abs_of}
-use Rattle.tables.specs.declared.calibration.Calibration.{Calibration}
-use Rattle.tables.specs.Calibration.{word_at, million, usable, cal}
+use Rattle.tables.specs.Calibration.{million, usable}
 
 -- an exponent field that is not all ones is no NaN's
 pub readable : (w : ℕ) → (w % 2147483648 / 8388608 ≡ 255 → ⊥) → T (not (nan_bits binary32 w))
@@ -33,28 +32,3 @@ unfolding usable is_finite abs_of lt of_bits
 sized nan = refl
 sized (inf s) = refl
 sized (fin s m e) = refl
-
--- ---- the answer by the tests
-module _ (c : Calibration) (at : ℕ) (d : Float) where
-  abbrev number : Float
-  number = of_bits binary32 (word_at c.words at)
-
-  by : (v r u : Bool) → c.valid ≡ v → ltb (at / 4) 73 ≡ r → usable number ≡ u → cal c at d ≡ cond (v && r && u) number d
-  unfolding cal
-  by v r u p q s =
-      ap (λ (b : Bool). cond (b && ltb (at / 4) 73 && usable number) number d) p
-      ∙ ap (λ (b : Bool). cond (v && b && usable number) number d) q
-      ∙ ap (λ (b : Bool). cond (v && r && b) number d) s
-
-  pub past : 73 ≤ at / 4 → d ≡ cal c at d
-  past h = sym (by c.valid false (usable number) refl (le-ltb (at / 4) 73 h) refl ∙ go c.valid)
-    where
-      go : (v : Bool) → cond (v && false && usable number) number d ≡ d
-      go true = refl
-      go false = refl
-
-  pub unmarked : c.valid ≡ false → d ≡ cal c at d
-  unmarked v = sym (by false (ltb (at / 4) 73) (usable number) v refl refl)
-
-  pub read : (u : Bool) → c.valid ≡ true → at / 4 < 73 → usable number ≡ u → cond u number d ≡ cal c at d
-  read u v h e = sym (by true true u v (lt-ltb (at / 4) 73 h) e)

@@ -1,22 +1,20 @@
 -- The calibration words, by document 01: "Calibration is 73 words of 32 bits and a valid mark; `cal` takes the word at byte offset, or its default if the mark is off, or the value
 -- is not finite or not below 1.0e6 in size." Refusal 8: "calibration words not 73".
-use Rattle.std.specs.Prelude.{Bool, false, ◌&&◌, cond, List, ℕ, ◌/◌, eqb, ltb, length, get_or, replicate, Float}
+use Rattle.std.specs.Prelude.{Bool, false, ◌&&◌, cond, List, ℕ, ◌/◌, eqb, ltb, length, get_or, replicate, Float, Result, Ok, Err}
 use Rattle.std.specs.Float.{binary32}
 use Rattle.std.specs.Float.Ieee.{lt, of_bits}
 use Rattle.numbers.specs.Binary32.{zero_f, one_f, is_finite, abs_of}
+use Rattle.refusals.specs.declared.Refusal.{Refusal}
 use Rattle.refusals.specs.declared.Refusal.TheVariants as refusal
 use Rattle.tables.specs.declared.calibration.Calibration.{Calibration}
-use Rattle.tables.specs.declared.calibration.CalibrationAnswer.{CalibrationAnswer}
 
--- zeros with the mark off, which a refusal answers
+-- zeros with the mark off: no valid word
 abbrev pub no_calibration : Calibration
 no_calibration = record { words = replicate 73 0; valid = false }
 
 -- the lent words with their mark, or refusal 8
-unfoldable pub calibration_of : List ℕ → Bool → CalibrationAnswer
-calibration_of words valid =
-    cond (eqb (length words) 73) (record { refusal = refusal.Done; calibration = record { words = words; valid = valid } })
-    (record { refusal = refusal.Words; calibration = no_calibration })
+unfoldable pub calibration_of : List ℕ → Bool → Result Calibration Refusal
+calibration_of words valid = cond (eqb (length words) 73) (Ok (record { words = words; valid = valid })) (Err refusal.Words)
 
 -- the 32 bits of the word that has byte `at`: a word has four bytes
 abbrev pub word_at : List ℕ → ℕ → ℕ

@@ -1,15 +1,12 @@
 -- `cmp_window` of the source: the comparator's two tables, and one rule over both. The definition is by two separate walks, one over each table.
-use Rattle.std.specs.Prelude.{Bool, true, cond, ◌&&◌, List, [], ◌∷◌, ℕ, zero, suc, ◌+◌, ◌*◌, ◌<◌, get_or, Float}
+use Rattle.std.specs.Prelude.{Bool, true, cond, ◌&&◌, List, [], ◌∷◌, ℕ, zero, suc, ◌+◌, ◌*◌, ◌<◌, get_or, Float, Option, Some, None}
 use Rattle.std.specs.Float.{nan, binary32}
 use Rattle.std.specs.Float.Ieee.{lt, le, of_bits}
 use Rattle.numbers.specs.Binary32.{◌+f◌, ◌-f◌, ◌*f◌}
 use Rattle.numbers.specs.Decimal.{decimal, minus_decimal}
 use Rattle.tables.specs.declared.window.Side.{Side}
 use Rattle.tables.specs.declared.window.Side.TheVariants.{Upper, Lower}
-use Rattle.tables.specs.declared.window.Pick.{Pick}
-use Rattle.tables.specs.declared.window.Pick.TheVariants.{NoEntry, Entry}
-use Rattle.tables.specs.declared.window.Window.{Window}
-use Rattle.tables.specs.declared.window.Window.TheVariants.{NoWindow, R21}
+use Rattle.tables.specs.declared.window.Entry.{Entry}
 
 -- CMP_RH and CMP_RL: the codes and the levels of the upper and of the lower thresholds
 unfoldable pub codes : Side → List ℕ
@@ -39,18 +36,22 @@ unfoldable pub nearer : Side → Float → Float → Bool
 nearer Upper v w = lt v w
 nearer Lower v w = lt w v
 
-abbrev pub nearer_than : Side → Float → Pick → Bool
-nearer_than side v NoEntry = true
-nearer_than side v (Entry code w) = nearer side v w
+abbrev pub nearer_than : Side → Float → Option Entry → Bool
+nearer_than side v None = true
+nearer_than side v (Some before) = nearer side v before.level
 
 -- an entry is picked where it clears the limit and is nearer than the one picked before
-unfoldable pub picked : Side → Float → Pick → ℕ → Float → Pick
-picked side limit best code v = cond (clears side limit v) (cond (nearer_than side v best) (Entry code v) best) best
+unfoldable pub picked : Side → Float → Option Entry → Entry → Option Entry
+picked side limit best entry = cond (clears side limit entry.level) (cond (nearer_than side entry.level best) (Some entry) best) best
+
+-- entry n of a table of codes and levels
+abbrev pub entry_of : List ℕ → List Float → ℕ → Entry
+entry_of ks vs n = record { code = get_or ks n 0; level = get_or vs n nan }
 
 -- the entry picked of the first n entries of a table, in their order
-unfoldable pub walk : Side → Float → List ℕ → List Float → ℕ → Pick
-walk side limit ks vs zero = NoEntry
-walk side limit ks vs (suc n) = picked side limit (walk side limit ks vs n) (get_or ks n 0) (get_or vs n nan)
+unfoldable pub walk : Side → Float → List ℕ → List Float → ℕ → Option Entry
+walk side limit ks vs zero = None
+walk side limit ks vs (suc n) = picked side limit (walk side limit ks vs n) (entry_of ks vs n)
 
 -- M, in volts; and 0.9 of the swing
 abbrev pub margin : Float
@@ -60,7 +61,7 @@ abbrev pub reach : Float
 reach = of_bits binary32 0x3f66_6666  -- 0.9
 
 -- the nearest entry of a side's table that clears the middle c by M
-abbrev pub nearest : Side → Float → Pick
+abbrev pub nearest : Side → Float → Option Entry
 nearest side c = walk side (away side c margin) (codes side) (levels side) 12
 
 -- level v lies short of the middle c moved outward by 0.9 of the swing a
@@ -68,15 +69,15 @@ unfoldable pub inside : Side → Float → Float → Float → Bool
 inside side c a v = nearer side v (away side c (reach *f a))
 
 -- the code has four bits: what `joined` asks of the two picks that it is handed
-abbrev pub FourBits : Pick → Type 0
-FourBits NoEntry = Unit
-FourBits (Entry code v) = code < 16
+abbrev pub FourBits : Option Entry → Type 0
+FourBits None = Unit
+FourBits (Some entry) = entry.code < 16
 
 -- none where a side has no entry, or where one lies outside the swing; else R21: the upper code in the high four bits, the lower one in the low four
-unfoldable pub joined : Float → Float → Pick → Pick → Window
-joined c a NoEntry down = NoWindow
-joined c a (Entry h vh) NoEntry = NoWindow
-joined c a (Entry h vh) (Entry l vl) = cond (inside Upper c a vh && inside Lower c a vl) (R21 (h * 16 + l)) NoWindow
+unfoldable pub joined : Float → Float → Option Entry → Option Entry → Option ℕ
+joined c a None down = None
+joined c a (Some high) None = None
+joined c a (Some high) (Some low) = cond (inside Upper c a high.level && inside Lower c a low.level) (Some (high.code * 16 + low.code)) None
 
-unfoldable pub cmp_window : Float → Float → Window
+unfoldable pub cmp_window : Float → Float → Option ℕ
 cmp_window c a = joined c a (nearest Upper c) (nearest Lower c)

@@ -186,6 +186,7 @@ pub fn float_constants() -> [f32; 15]
 }
 
 /// The whole numbers that have to do with the chip: registers, times, counts, the limit's seconds.
+#[tactic(auto, unfolding(crate::specs::Constants::chip_constants))]
 pub fn chip_constants() -> [u64; 18]
     ensures { result ≡ chip_constants }
 {
@@ -212,6 +213,7 @@ pub fn chip_constants() -> [u64; 18]
 }
 
 /// Those that the meter's state holds, with the zero job's bounds.
+#[tactic(auto, unfolding(crate::specs::Constants::state_constants))]
 pub fn state_constants() -> [u64; 28]
     ensures { result ≡ state_constants }
 {

@@ -1,11 +1,12 @@
 //! What a meter is told of its hardware.
 ghost use Rattle.std.specs.Prelude.{◌≡◌};
-ghost use Rattle.tables.specs.Bounds.{every};
-ghost use Rattle.tables.specs.Description.{in_bounds, description_refusal};
+ghost use Rattle.std.specs.List.{list_all};
+ghost use Rattle.tables.specs.Description.{in_bounds, check_description};
 
 use crate::bounds::within;
 use refusals::Refusal;
 
+/// Six numbers, and `a_auto`.
 #[derive(Clone, Copy)]
 #[repr(C)]
 pub struct Description {
@@ -19,11 +20,22 @@ pub struct Description {
     pub a_auto: bool,
 }
 
+impl Description {
+    /// Six numbers of 1.0, and `a_auto` no.
+    pub const PLAIN: Description = Description {
+        mv_div: [1.0; 2],
+        shunt: [1.0; 3],
+        over: 1.0,
+        a_auto: false,
+    };
+}
+
 const LEAST: f32 = 1.0 / 1_048_576.0;
 
 const MOST: f32 = 1_048_576.0;
 
 // From 2^-20 to 2^20, ends allowed, and so no NaN.
+#[tactic(auto, unfolding(crate::specs::Description::in_bounds))]
 fn in_bounds(x: f32) -> bool
     ensures { result ≡ in_bounds x }
 {
@@ -32,32 +44,19 @@ fn in_bounds(x: f32) -> bool
 
 // Whether each number of a list is in bounds.
 fn all_in_bounds(xs: &[f32]) -> bool
-    ensures { result ≡ every in_bounds xs.now }
+    ensures { result ≡ list_all in_bounds xs.now }
 {
-    let mut i = 0usize;
-    while i < xs.len() {
-        if !in_bounds(xs[i]) {
-            return false;
-        }
-        i += 1;
-    }
-    true
+    xs.iter().all(|&x| in_bounds(x))
 }
 
 /// Refusal 7 unless each of the six numbers is in bounds.
-pub fn description_refusal(d: Description) -> Refusal
-    ensures { result ≡ description_refusal d }
+#[tactic(auto, unfolding(crate::specs::Description::check_description))]
+pub fn check_description(d: Description) -> Result<(), Refusal>
+    ensures { result ≡ check_description d }
 {
-    let mv_div = d.mv_div;
-    let shunt = d.shunt;
-    if !all_in_bounds(&mv_div) {
-        return Refusal::Description;
+    if all_in_bounds(&d.mv_div) && all_in_bounds(&d.shunt) && in_bounds(d.over) {
+        Ok(())
+    } else {
+        Err(Refusal::Description)
     }
-    if !all_in_bounds(&shunt) {
-        return Refusal::Description;
-    }
-    if !in_bounds(d.over) {
-        return Refusal::Description;
-    }
-    Refusal::Done
 }

@@ -11,3 +11,4 @@ pub mod lookups;
 pub mod ranges;
 pub mod row;
 pub mod window;
+pub mod window_rule;

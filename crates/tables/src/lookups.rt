@@ -9,17 +9,15 @@ use crate::constants::{CYCLE, I_LIM, KV, SHUNT_OHM, V_LIM};
 use crate::decided::{ACA_WIN, ACV_WIN, DCV_NEGK, K_ACV};
 
 // Entry k of a table, or its last one.
+#[tactic(auto, unfolding(crate::specs::Bounds::entry_at, crate::specs::Bounds::at_most))]
 fn entry(table: &[f32], k: u8) -> f32
     requires { 0 < length table.now }
     ensures { result ≡ entry_at nan table.now k }
 {
-    let last = table.len() - 1;
-    if (k as usize) < last {
-        table[k as usize]
-    } else {
-        table[last]
-    }
+    table[usize::from(k).min(table.len() - 1)]
 }
+
+// One line each over `entry`: the source's names, by which the definitions and C programs ask.
 
 /// The volts of a V range.
 pub fn v_lim(vr: u8) -> f32
@@ -78,8 +76,9 @@ pub fn aca_win(ci: u8) -> f32
 }
 
 /// R34 in a phase of the simultaneous method.
+#[tactic(auto, unfolding(crate::specs::Constants::cycle, crate::specs::Constants::cycle_at))]
 pub fn cycle(phase: u8) -> u8
     ensures { result ≡ cycle_at phase }
 {
-    CYCLE[(phase % 4) as usize]
+    CYCLE[usize::from(phase % 4)]
 }

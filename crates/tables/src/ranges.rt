@@ -7,13 +7,14 @@ use crate::constants::{COUP_AC, COUP_ACDC, COUP_DC};
 
 /// The unit of a current range (0 A, 1 mA, 2 uA) and its amplifier's gain index (0 times ten, 1 times
 /// one).
-#[derive(Clone, Copy)]
+#[derive(Clone, Copy, Debug, PartialEq, Eq)]
 pub struct IuIr {
     pub iu: u8,
     pub ir: u8,
 }
 
 /// Of current range k, where a range above 5 counts as 5.
+#[tactic(auto, using(crate::proofs::Held::at_most_law), unfolding(crate::specs::Ranges::iu_ir))]
 pub fn iu_ir(k: u8) -> IuIr
     ensures { result ≡ iu_ir k }
 {
@@ -25,6 +26,7 @@ pub fn iu_ir(k: u8) -> IuIr
 }
 
 /// The place of current range k among six calibration words: they go by unit, not by range.
+#[tactic(auto, using(crate::proofs::Held::iu_most, crate::proofs::Held::ir_most), unfolding(crate::specs::Ranges::cal_index))]
 pub fn cal_index(k: u8) -> u8
     ensures { result ≡ cal_index k }
 {
@@ -33,6 +35,8 @@ pub fn cal_index(k: u8) -> u8
 }
 
 /// The coupling that a stored or asked number means: its low two bits, with 2 for AC+DC.
+// A number and no enum: a C host keeps it in the meter's state.
+#[tactic(auto, unfolding(crate::specs::Ranges::coup_of))]
 pub fn coup_of(c: u32) -> u8
     ensures { result ≡ coup_of c }
 {
@@ -44,6 +48,7 @@ pub fn coup_of(c: u32) -> u8
 }
 
 /// The next coupling in the order DC, AC, AC+DC; DC after any other number.
+#[tactic(auto, unfolding(crate::specs::Ranges::next_coupling))]
 pub fn next_coupling(c: u8) -> u8
     ensures { result ≡ next_coupling c }
 {
@@ -55,14 +60,10 @@ pub fn next_coupling(c: u8) -> u8
 }
 
 /// R36 of a signed number of phase steps: the size, at most 127, and bit 7 where it is above zero.
+#[tactic(auto, unfolding(crate::specs::Ranges::r36_of, crate::specs::Bounds::at_most))]
 pub fn r36_of(steps: i8) -> u8
     ensures { result ≡ r36_of steps }
 {
-    if steps > 0 {
-        return 128 + (steps as u8);
-    }
-    if steps >= -127 {
-        return (0 - steps) as u8;
-    }
-    127
+    let size = steps.unsigned_abs().min(127);
+    if steps > 0 { 128 + size } else { size }
 }

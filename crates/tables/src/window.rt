@@ -19,27 +19,21 @@ const CMP_RL_LEVEL: [f32; 12] = [
 // How far a threshold clears the middle.
 const M: f32 = 0.006;
 
-#[derive(Clone, Copy)]
+#[derive(Clone, Copy, Debug, PartialEq, Eq)]
 pub enum Side {
     Upper,
     Lower,
 }
 
-/// The nearest entry so far.
+/// A threshold: its code, and its level in volts above the comparator's zero.
 #[derive(Clone, Copy)]
-pub enum Pick {
-    NoEntry,
-    Entry(u8, f32),
-}
-
-/// What the choice answers: none, or R21's code.
-#[derive(Clone, Copy)]
-pub enum Window {
-    NoWindow,
-    R21(u8),
+pub struct Entry {
+    pub code: u8,
+    pub level: f32,
 }
 
 // The middle c moved outward by d: up for the upper side, down for the lower.
+#[tactic(auto, unfolding(crate::specs::Window::away))]
 fn away(side: Side, c: f32, d: f32) -> f32
     ensures { result ≡ away side c d }
 {
@@ -50,6 +44,7 @@ fn away(side: Side, c: f32, d: f32) -> f32
 }
 
 // Whether a level lies at the limit or beyond it, outward.
+#[tactic(auto, unfolding(crate::specs::Window::clears))]
 fn clears(side: Side, limit: f32, v: f32) -> bool
     ensures { result ≡ clears side limit v }
 {
@@ -60,6 +55,7 @@ fn clears(side: Side, limit: f32, v: f32) -> bool
 }
 
 // Whether of two levels beyond the middle on this side v is the nearer one.
+#[tactic(auto, unfolding(crate::specs::Window::nearer))]
 fn nearer(side: Side, v: f32, w: f32) -> bool
     ensures { result ≡ nearer side v w }
 {
@@ -69,71 +65,60 @@ fn nearer(side: Side, v: f32, w: f32) -> bool
     }
 }
 
-// The nearest entry once entry (code, v) is met.
-fn picked(side: Side, limit: f32, best: Pick, code: u8, v: f32) -> Pick
-    ensures { result ≡ picked side limit best code v }
+// The nearest entry once one more is met.
+#[tactic(auto, unfolding(crate::specs::Window::picked))]
+fn picked(side: Side, limit: f32, best: Option<Entry>, entry: Entry) -> Option<Entry>
+    ensures { result ≡ picked side limit best entry }
 {
-    if clears(side, limit, v) {
-        match best {
-            Pick::NoEntry => Pick::Entry(code, v),
-            Pick::Entry(_, w) => if nearer(side, v, w) {
-                Pick::Entry(code, v)
-            } else {
-                best
-            },
-        }
-    } else {
-        best
+    if !clears(side, limit, entry.level) {
+        return best;
+    }
+    match best {
+        Some(before) if !nearer(side, entry.level, before.level) => best,
+        _ => Some(entry),
     }
 }
 
 // The nearest entry of a table that clears the limit.
-fn nearest(side: Side, limit: f32, codes: &[u8], levels: &[f32]) -> Pick
+#[tactic(auto, unfolding(crate::specs::Window::walk))]
+fn nearest(side: Side, limit: f32, codes: &[u8], levels: &[f32]) -> Option<Entry>
     requires { length codes.now ≡ length levels.now }
     ensures { result ≡ walk side limit codes.now levels.now (length levels.now) }
 {
-    let mut best = Pick::NoEntry;
-    let mut i = 0usize;
-    while i < levels.len() {
-        best = picked(side, limit, best, codes[i], levels[i]);
-        i += 1;
+    let mut best = None;
+    for (&code, &level) in codes.iter().zip(levels) {
+        best = picked(side, limit, best, Entry { code, level });
     }
     best
 }
 
 // Whether level v lies short of the middle c moved outward by 0.9 of the swing a.
+#[tactic(auto, unfolding(crate::specs::Window::inside))]
 fn inside(side: Side, c: f32, a: f32, v: f32) -> bool
     ensures { result ≡ inside side c a v }
 {
     nearer(side, v, away(side, c, 0.9 * a))
 }
 
-// The window of two picks: none where a side has no entry, or one that is not inside the swing.
-fn joined(c: f32, a: f32, up: Pick, down: Pick) -> Window
+// R21 of two picks: none where a side has no entry, or one that is not inside the swing.
+#[tactic(auto, unfolding(crate::specs::Window::joined))]
+fn joined(c: f32, a: f32, up: Option<Entry>, down: Option<Entry>) -> Option<u8>
     requires { FourBits up × FourBits down }
     ensures { result ≡ joined c a up down }
 {
-    match up {
-        Pick::NoEntry => Window::NoWindow,
-        Pick::Entry(h, vh) => match down {
-            Pick::NoEntry => Window::NoWindow,
-            Pick::Entry(l, vl) => {
-                if inside(Side::Upper, c, a, vh) {
-                    if inside(Side::Lower, c, a, vl) {
-                        return Window::R21(h * 16 + l);
-                    }
-                    return Window::NoWindow;
-                }
-                Window::NoWindow
-            }
-        },
+    let high = up?;
+    let low = down?;
+    if inside(Side::Upper, c, a, high.level) && inside(Side::Lower, c, a, low.level) {
+        Some(high.code * 16 + low.code)
+    } else {
+        None
     }
 }
 
 /// R21 for a comparator whose input has its middle (its DC part) at c volts and swings by a volts (the
 /// AC part's RMS): the nearest threshold on each side that clears the middle, where both lie within
 /// 0.9 of the swing.
-pub fn cmp_window(c: f32, a: f32) -> Window
+pub fn cmp_window(c: f32, a: f32) -> Option<u8>
     ensures { result ≡ cmp_window c a }
 {
     let up = nearest(

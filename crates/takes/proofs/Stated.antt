@@ -1,10 +1,11 @@
 -- What follows from the definitions: when a result is turned down, and what each take leaves as it was.
-use mathlib.Core.Path.{◌≡◌, refl}
-use mathlib.Core.Bool.{Bool, true, false, not, cond, ◌&&◌, true≢false}
+use mathlib.Core.Path.{◌≡◌, refl, ap}
+use mathlib.Core.Bool.{Bool, true, false, not, cond, ◌&&◌}
 use Prim.Native.Nat.{ℕ, ◌%◌}
 use lib.Dec.{eqb}
 use lib.IntN.{pos}
 use lib.Ieee.{Float, lt}
+use Rattle.std.specs.Prelude.{Option, Some, None, is_some, IfSome}
 use Rattle.numbers.specs.Binary32.{◌*f◌, zero_f}
 use Rattle.codes.specs.declared.Codes.{Codes}
 use Rattle.tables.specs.Constants.{r34_xy, r34_xx, r34_yy}
@@ -15,54 +16,45 @@ use Rattle.state.specs.declared.Ranges.{Ranges}
 use Rattle.state.specs.Seen.{both_seen}
 use Rattle.takes.specs.declared.scales.Instrument.{Instrument}
 use Rattle.takes.specs.declared.take.Measured.{Measured}
-use Rattle.takes.specs.declared.take.Taken.{Taken}
-use Rattle.takes.specs.Scales.{zero_x, zero_d, zero_y, rms_root}
+use Rattle.takes.specs.Scales.{zero_at, zero_x, zero_d, zero_y, rms_root}
 use Rattle.takes.specs.Parts.{xy_parts, i_parts, v_parts, alt_v_parts, dc_v_parts, dc_i_parts}
-use Rattle.takes.specs.Take.{turned_down, accepted, xy_too_large, root_too_large, phase_counted, take_xy, take_xx, take_yy, take, take_alt_v, take_alt_i, take_alt, dc_v_taken, dc_i_taken, PhaseKept}
+use Rattle.takes.specs.Take.{xy_too_large, root_too_large, phase_counted, take_xy, take_xx, take_yy, take, take_alt_v, take_alt_i, take_alt, dc_v_taken, dc_i_taken, PhaseKept}
 use Rattle.numbers.proofs.Cases.{either}
 
 -- ---- document 01: "XY is turned down when |RMS| > 2^36; XX and YY when the computed root exceeds 262,144"
 
-down_exactly : (t : Bool) (m x : Measured) → (cond t (turned_down m) (accepted x)).accepted ≡ not t
-down_exactly true m x = refl
-down_exactly false m x = refl
+down_exactly : (t : Bool) (x : Measured) → is_some (cond t None (Some x)) ≡ not t
+down_exactly true x = refl
+down_exactly false x = refl
 
 module _ (w : Instrument) (codes : Codes) (m : Measured) where
-  pub xy_exactly : (r : Ranges) → (take_xy w r codes m).accepted ≡ not (xy_too_large codes.rms)
+  pub xy_exactly : (r : Ranges) → is_some (take_xy w r codes m) ≡ not (xy_too_large codes.rms)
   unfolding take_xy
-  xy_exactly r = down_exactly (xy_too_large codes.rms) m _
+  xy_exactly r = down_exactly (xy_too_large codes.rms) _
 
-  pub xx_exactly : (ik : ℕ) → (take_xx w ik codes m).accepted ≡ not (root_too_large (rms_root codes.rms))
+  pub xx_exactly : (ik : ℕ) → is_some (take_xx w ik codes m) ≡ not (root_too_large (rms_root codes.rms))
   unfolding take_xx
-  xx_exactly ik = down_exactly (root_too_large (rms_root codes.rms)) m _
+  xx_exactly ik = down_exactly (root_too_large (rms_root codes.rms)) _
 
-  pub yy_exactly : (vr : ℕ) → (take_yy w vr codes m).accepted ≡ not (root_too_large (rms_root codes.rms))
+  pub yy_exactly : (vr : ℕ) → is_some (take_yy w vr codes m) ≡ not (root_too_large (rms_root codes.rms))
   unfolding take_yy
-  yy_exactly vr = down_exactly (root_too_large (rms_root codes.rms)) m _
+  yy_exactly vr = down_exactly (root_too_large (rms_root codes.rms)) _
 
-  pub alt_exactly : (r : Ranges) (phase : ℕ) → (take_alt w r phase codes m).accepted ≡ not (root_too_large (rms_root codes.rms))
+  pub alt_exactly : (r : Ranges) (phase : ℕ) → is_some (take_alt w r phase codes m) ≡ not (root_too_large (rms_root codes.rms))
   unfolding take_alt
-  alt_exactly r phase = down_exactly (root_too_large (rms_root codes.rms)) m _
+  alt_exactly r phase = down_exactly (root_too_large (rms_root codes.rms)) _
 
 -- ---- a result turned down changes nothing
-
-abbrev Settled : Measured → Taken → Type 0
-Settled m t = t.accepted ≡ false → t.measured ≡ m
-
-settled : (t : Bool) (m x : Measured) → Settled m (cond t (turned_down m) (accepted x))
-settled t m x = either (Settled m) t (λ e. refl) (λ e. absurd (true≢false e))
+abbrev pub after : Measured → Option Measured → Measured
+after m None = m
+after m (Some t) = t
 
 module _ (w : Instrument) (r : Ranges) (codes : Codes) (m : Measured) where
-  pub down_leaves : (stat : ℕ) → (take w r stat codes m).accepted ≡ false → (take w r stat codes m).measured ≡ m
-  unfolding take take_xy take_xx take_yy
-  down_leaves stat =
-      either (Settled m) (eqb stat r34_xy) (settled (xy_too_large codes.rms) m _)
-      (either (Settled m) (eqb stat r34_xx) (settled (root_too_large (rms_root codes.rms)) m _)
-      (either (Settled m) (eqb stat r34_yy) (settled (root_too_large (rms_root codes.rms)) m _) (λ e. refl)))
+  pub down_leaves : (stat : ℕ) → take w r stat codes m ≡ None → after m (take w r stat codes m) ≡ m
+  down_leaves stat down = ap (after m) down
 
-  pub alt_down_leaves : (phase : ℕ) → (take_alt w r phase codes m).accepted ≡ false → (take_alt w r phase codes m).measured ≡ m
-  unfolding take_alt
-  alt_down_leaves phase = settled (root_too_large (rms_root codes.rms)) m _
+  pub alt_down_leaves : (phase : ℕ) → take_alt w r phase codes m ≡ None → after m (take_alt w r phase codes m) ≡ m
+  alt_down_leaves phase down = ap (after m) down
 
 -- ---- what each take leaves of the smoothed values
 
@@ -107,19 +99,19 @@ phase_leaves c p seen parts =
     either (λ (x : PhaseCal). PhaseKept x c) counts (same c) (same c)
 
 module _ (w : Instrument) (r : Ranges) (codes : Codes) (m : Measured) where
-  pub take_keeps_phase : (stat : ℕ) → PhaseKept (take w r stat codes m).measured.phase_cal m.phase_cal
+  pub take_keeps_phase : (stat : ℕ) → IfSome (take w r stat codes m) (λ t. PhaseKept t.phase_cal m.phase_cal)
   unfolding take take_xy take_xx take_yy
   take_keeps_phase stat =
       let c = m.phase_cal in
-      let P : Taken → Type 0 = λ t. PhaseKept t.measured.phase_cal c in
+      let P : Option Measured → Type 0 = λ o. IfSome o (λ t. PhaseKept t.phase_cal c) in
       let large = root_too_large (rms_root codes.rms) in
-      either P (eqb stat r34_xy) (either P (xy_too_large codes.rms) (same c) (phase_leaves c _ _ _))
-      (either P (eqb stat r34_xx) (either P large (same c) (same c)) (either P (eqb stat r34_yy) (either P large (same c) (same c)) (same c)))
+      either P (eqb stat r34_xy) (either P (xy_too_large codes.rms) tt (phase_leaves c _ _ _))
+      (either P (eqb stat r34_xx) (either P large tt (same c)) (either P (eqb stat r34_yy) (either P large tt (same c)) tt))
 
-  pub alt_keeps_phase : (phase : ℕ) → (take_alt w r phase codes m).measured.phase_cal ≡ m.phase_cal
+  pub alt_keeps_phase : (phase : ℕ) → IfSome (take_alt w r phase codes m) (λ t. t.phase_cal ≡ m.phase_cal)
   unfolding take_alt take_alt_v take_alt_i
   alt_keeps_phase phase =
-      either (λ (t : Taken). t.measured.phase_cal ≡ m.phase_cal) (root_too_large (rms_root codes.rms)) refl
+      either (λ (o : Option Measured). IfSome o (λ t. t.phase_cal ≡ m.phase_cal)) (root_too_large (rms_root codes.rms)) tt
       (either (λ (x : Measured). x.phase_cal ≡ m.phase_cal) (eqb (phase % 2) 0) refl refl)
 
   pub dc_keeps_phase : ((dc_v_taken w r.vr codes m).phase_cal ≡ m.phase_cal) × ((dc_i_taken w r.ik codes m).phase_cal ≡ m.phase_cal)
@@ -134,11 +126,11 @@ module _ (w : Instrument) (r : Ranges) (codes : Codes) (m : Measured) where
 -- ---- while no zero is stored, each counts as 0
 module _ (c : Corrections) (none : c.zero_ok ≡ false) (ik : ℕ) where
   pub no_zero_x : zero_x c ik ≡ pos 0
-  unfolding zero_x
+  unfolding zero_at
   no_zero_x = rw (none)
 
   pub no_zero_d : zero_d c ik ≡ pos 0
-  unfolding zero_d
+  unfolding zero_at
   no_zero_d = rw (none)
 
   pub no_zero_y : zero_y c ≡ pos 0

@@ -33,19 +33,26 @@ hundredth = of_bits binary32 0x3c23_d70a
 unfoldable pub smoothed : Bool → Float → Float → Float → Float → Float
 smoothed later win a x y = cond later (ema win a x y) x
 
+-- a voltage's by `ACV_WIN[vr]`, and a current's
+unfoldable pub volts : ℕ → ℕ → Float → Float → Float → Float
+volts vr seen a x y = smoothed (has_seen seen Voltage) (entry_at nan acv_win vr) a x y
+
+unfoldable pub amps : ℕ → ℕ → Float → Float → Float → Float
+amps ik seen a x y = smoothed (has_seen seen Current) (i_win ik) a x y
+
 -- the power's: `ema_rel(0.25, 0.01 * V_LIM[vr] * I_LIM[ik], p, ..)`
-unfoldable pub smoothed_power : Bool → Ranges → Float → Float → Float
-smoothed_power later r x y = cond later (ema_rel a25 (hundredth *f entry_at nan v_lim r.vr *f entry_at nan i_lim r.ik) x y) x
+unfoldable pub smoothed_power : Ranges → ℕ → Float → Float → Float
+smoothed_power r seen x y = cond (has_seen seen Power) (ema_rel a25 (hundredth *f entry_at nan v_lim r.vr *f entry_at nan i_lim r.ik) x y) x
 
 -- XY (`pw_take`): the power, and the DC current, which only XX marks as measured
 unfoldable pub xy_parts : Ranges → ℕ → Float → Float → Parts → Parts
 xy_parts r seen power iDc p =
     record {
-      p_ac = smoothed_power (has_seen seen Power) r power p.p_ac;
+      p_ac = smoothed_power r seen power p.p_ac;
       v_ac = p.v_ac;
       v_dc = p.v_dc;
       i_ac = p.i_ac;
-      i_dc = smoothed (has_seen seen Current) (i_win r.ik) a35 iDc p.i_dc;
+      i_dc = amps r.ik seen a35 iDc p.i_dc;
       vac_dc = p.vac_dc;
     }
 
@@ -56,8 +63,8 @@ i_parts ik seen iAc iDc p =
       p_ac = p.p_ac;
       v_ac = p.v_ac;
       v_dc = p.v_dc;
-      i_ac = smoothed (has_seen seen Current) (i_win ik) a15 iAc p.i_ac;
-      i_dc = smoothed (has_seen seen Current) (i_win ik) a35 iDc p.i_dc;
+      i_ac = amps ik seen a15 iAc p.i_ac;
+      i_dc = amps ik seen a35 iDc p.i_dc;
       vac_dc = p.vac_dc;
     }
 
@@ -66,8 +73,8 @@ unfoldable pub v_parts : ℕ → ℕ → Float → Float → Parts → Parts
 v_parts vr seen vAc vDc p =
     record {
       p_ac = p.p_ac;
-      v_ac = smoothed (has_seen seen Voltage) (entry_at nan acv_win vr) a25 vAc p.v_ac;
-      v_dc = smoothed (has_seen seen Voltage) (entry_at nan acv_win vr) a25 vDc p.v_dc;
+      v_ac = volts vr seen a25 vAc p.v_ac;
+      v_dc = volts vr seen a25 vDc p.v_dc;
       i_ac = p.i_ac;
       i_dc = p.i_dc;
       vac_dc = p.vac_dc;
@@ -78,7 +85,7 @@ unfoldable pub alt_v_parts : ℕ → ℕ → Float → Parts → Parts
 alt_v_parts vr seen vAc p =
     record {
       p_ac = p.p_ac;
-      v_ac = smoothed (has_seen seen Voltage) (entry_at nan acv_win vr) a25 vAc p.v_ac;
+      v_ac = volts vr seen a25 vAc p.v_ac;
       v_dc = zero_f;
       i_ac = p.i_ac;
       i_dc = p.i_dc;
@@ -91,10 +98,10 @@ dc_v_parts vr seen vDc vacDc p =
     record {
       p_ac = p.p_ac;
       v_ac = zero_f;
-      v_dc = smoothed (has_seen seen Voltage) (entry_at nan acv_win vr) a50 vDc p.v_dc;
+      v_dc = volts vr seen a50 vDc p.v_dc;
       i_ac = p.i_ac;
       i_dc = p.i_dc;
-      vac_dc = smoothed (has_seen seen Voltage) (entry_at nan acv_win vr) a25 vacDc p.vac_dc;
+      vac_dc = volts vr seen a25 vacDc p.vac_dc;
     }
 
 -- the DC row's current (`pw_poll_dc`): the AC part and the AC power become 0
@@ -105,6 +112,6 @@ dc_i_parts ik seen iDc p =
       v_ac = p.v_ac;
       v_dc = p.v_dc;
       i_ac = zero_f;
-      i_dc = smoothed (has_seen seen Current) (i_win ik) a50 iDc p.i_dc;
+      i_dc = amps ik seen a50 iDc p.i_dc;
       vac_dc = p.vac_dc;
     }

@@ -1,9 +1,9 @@
 -- What a conversion's codes say before any smoothing, in the source's order of operations, each rounded to binary32.
-use Rattle.std.specs.Prelude.{Bool, cond, ℕ, ◌+◌, ◌*◌, ℤ, pos, Float}
+use Rattle.std.specs.Prelude.{Bool, cond, ℕ, ◌+◌, ◌*◌, min, ℤ, pos, Float}
 use Rattle.std.specs.Float.{nan, binary32}
 use Rattle.std.specs.Float.Ieee.{of_bits, of_int}
 use Rattle.numbers.specs.Binary32.{◌-f◌, ◌*f◌, ◌/f◌, zero_f, max_of}
-use Rattle.tables.specs.Bounds.{at_most, entry_at}
+use Rattle.tables.specs.Bounds.{entry_at}
 use Rattle.tables.specs.Constants.{code}
 use Rattle.tables.specs.Decided.{k_acv, ad1_div}
 use Rattle.tables.specs.Ranges.{iu_ir, cal_index}
@@ -41,7 +41,7 @@ dc_amps w ik lpf = code_less lpf (zero_x w.corrections ik) *f i_scale w.descript
 -- `(sq * s * cal(0x34 + 4 r) - cal(0x44 + 4 r)).max(0.0)` with `s = K_ACV[r] * CODE`
 unfoldable pub alt_volts : Calibration → ℕ → Float → Float
 alt_volts c vr root =
-    let r = at_most 3 vr in
+    let r = min vr 3 in
     max_of (root *f (entry_at nan k_acv vr *f code) *f factor c (0x34 + 4 * r) -f offset c (0x44 + 4 * r)) zero_f
 
 -- `(sq * s * cal(0xC4 + 4 ci) - cal(0xDC + 4 ci) * us).max(0.0)`: the power row's AC amperes, less an offset

@@ -1,11 +1,11 @@
 -- What codes are multiplied by, and the zeros that are taken off them: the first lines of `pw_take`, `pw_take_alt` and `pw_poll_dc` of the source.
 -- Zeros go by current range (ik), words and windows by calibration index (iu * 2 + ir), shunts by unit (iu), dividers by gain index (ir).
-use Rattle.std.specs.Prelude.{cond, ℕ, ◌+◌, ◌*◌, eqb, ℤ, pos, negsuc, ◌-ℤ◌, get_or, Float}
+use Rattle.std.specs.Prelude.{Bool, cond, List, ℕ, min, ◌+◌, ◌*◌, eqb, ℤ, pos, negsuc, ◌-ℤ◌, get_or, Float}
 use Rattle.std.specs.Float.{nan, binary32}
 use Rattle.std.specs.Float.Ieee.{eq, of_bits, of_int}
 use Rattle.numbers.specs.Binary32.{◌*f◌, ◌/f◌, one_f}
 use Rattle.numbers.specs.Root.{sqrt_of}
-use Rattle.tables.specs.Bounds.{at_most, entry_at}
+use Rattle.tables.specs.Bounds.{entry_at}
 use Rattle.tables.specs.Constants.{code, shunt_ohm, kv}
 use Rattle.tables.specs.Decided.{aca_win}
 use Rattle.tables.specs.Ranges.{iu_ir, cal_index}
@@ -56,12 +56,16 @@ g_il c ik = cond (eq (factor c (0xf4 + 4 * cal_index ik)) one_f) (g_i c ik) (fac
 unfoldable pub i_win : ℕ → Float
 i_win ik = entry_at nan aca_win (cal_index ik) *f us (iu_ir ik).iu
 
--- `zx`, `zd` by current range and `zy`, each 0 while no zero is stored
-unfoldable pub zero_x : Corrections → ℕ → ℤ
-zero_x c ik = cond c.zero_ok (get_or c.zx (at_most 5 ik) (pos 0)) (pos 0)
+-- a zero of a current range, 0 while none is stored
+unfoldable pub zero_at : Bool → List ℤ → ℕ → ℤ
+zero_at stored zeros ik = cond stored (get_or zeros (min ik 5) (pos 0)) (pos 0)
 
-unfoldable pub zero_d : Corrections → ℕ → ℤ
-zero_d c ik = cond c.zero_ok (get_or c.zd (at_most 5 ik) (pos 0)) (pos 0)
+-- `zx`, `zd` by current range and `zy`
+abbrev pub zero_x : Corrections → ℕ → ℤ
+zero_x c ik = zero_at c.zero_ok c.zx ik
+
+abbrev pub zero_d : Corrections → ℕ → ℤ
+zero_d c ik = zero_at c.zero_ok c.zd ik
 
 unfoldable pub zero_y : Corrections → ℤ
 zero_y c = cond c.zero_ok c.zy (pos 0)

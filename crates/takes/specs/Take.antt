@@ -1,6 +1,6 @@
--- One result: turned down, or taken. Document 01: "XY is turned down when |RMS| > 2^36; XX and YY when the computed root exceeds 262,144". The source: `pw_take`, `pw_take_alt`, and the two halves of `pw_poll_dc`,
+-- One result: None where it is turned down and nothing changes, else what stands once it is taken. Document 01: "XY is turned down when |RMS| > 2^36; XX and YY when the computed root exceeds 262,144". The source: `pw_take`, `pw_take_alt`, and the two halves of `pw_poll_dc`,
 -- which turns nothing down.
-use Rattle.std.specs.Prelude.{◌≡◌, Bool, true, false, not, cond, ◌&&◌, ℕ, ◌%◌, ◌^◌, ltb, eqb, ℤ, nat_abs, Float}
+use Rattle.std.specs.Prelude.{◌≡◌, Bool, not, cond, ◌&&◌, ℕ, ◌%◌, ◌^◌, ltb, eqb, Option, Some, None, ℤ, nat_abs, Float}
 use Rattle.std.specs.Float.{binary32}
 use Rattle.std.specs.Float.Ieee.{lt, of_bits}
 use Rattle.numbers.specs.Binary32.{◌+f◌, ◌*f◌, ◌/f◌, zero_f}
@@ -14,17 +14,9 @@ use Rattle.state.specs.Seen.{also_seen, both_seen}
 use Rattle.state.specs.Counting.{count_up}
 use Rattle.takes.specs.declared.scales.Instrument.{Instrument}
 use Rattle.takes.specs.declared.take.Measured.{Measured}
-use Rattle.takes.specs.declared.take.Taken.{Taken}
 use Rattle.takes.specs.Scales.{rms_root, gain, zero_y}
 use Rattle.takes.specs.Readings.{ac_volts, dc_volts, power, ac_amps, dc_amps, alt_volts, alt_amps, alt_dc_amps, ad1_amps}
 use Rattle.takes.specs.Parts.{xy_parts, i_parts, v_parts, alt_v_parts, dc_v_parts, dc_i_parts}
-
--- turned down: nothing changes
-abbrev pub turned_down : Measured → Taken
-turned_down m = record { accepted = false; measured = m }
-
-abbrev pub accepted : Measured → Taken
-accepted m = record { accepted = true; measured = m }
 
 -- `rms.unsigned_abs() > 1u64 << 36`
 unfoldable pub xy_too_large : ℤ → Bool
@@ -37,6 +29,13 @@ root_most = of_bits binary32 0x4880_0000
 -- `sq > 262_144.0`
 unfoldable pub root_too_large : Float → Bool
 root_too_large root = lt root_most root
+
+-- the root of an RMS code, None where it is too large
+abbrev pub if_within : Float → Option Float
+if_within root = cond (root_too_large root) None (Some root)
+
+unfoldable pub root_within : ℤ → Option Float
+root_within rms = if_within (rms_root rms)
 
 -- ---- method B
 
@@ -70,37 +69,37 @@ xy_measured r p iDc m =
       phase_cal = phase_counted m.phase_cal p (also_seen m.seen Power) (xy_parts r m.seen p iDc m.parts);
     }
 
-unfoldable pub take_xy : Instrument → Ranges → Codes → Measured → Taken
+unfoldable pub take_xy : Instrument → Ranges → Codes → Measured → Option Measured
 take_xy w r codes m =
-    cond (xy_too_large codes.rms) (turned_down m)
-    (accepted (xy_measured r (power w r codes.rms) (dc_amps w r.ik codes.lpf) m))
+    cond (xy_too_large codes.rms) None
+    (Some (xy_measured r (power w r codes.rms) (dc_amps w r.ik codes.lpf) m))
 
 -- parts and marks after a result; the phase calibration stays
 abbrev pub measured_to : Parts → ℕ → Measured → Measured
 measured_to parts seen m = record { parts = parts; seen = seen; phase_cal = m.phase_cal }
 
-unfoldable pub take_xx : Instrument → ℕ → Codes → Measured → Taken
+unfoldable pub take_xx : Instrument → ℕ → Codes → Measured → Option Measured
 take_xx w ik codes m =
     let root = rms_root codes.rms in
-    cond (root_too_large root) (turned_down m)
-    (accepted (measured_to
+    cond (root_too_large root) None
+    (Some (measured_to
     (i_parts ik m.seen (ac_amps w.description w.calibration ik root) (dc_amps w ik codes.lpf) m.parts)
     (also_seen m.seen Current) m))
 
-unfoldable pub take_yy : Instrument → ℕ → Codes → Measured → Taken
+unfoldable pub take_yy : Instrument → ℕ → Codes → Measured → Option Measured
 take_yy w vr codes m =
     let root = rms_root codes.rms in
-    cond (root_too_large root) (turned_down m)
-    (accepted (measured_to
+    cond (root_too_large root) None
+    (Some (measured_to
     (v_parts vr m.seen (ac_volts root vr (gain w vr)) (dc_volts codes.lpf (zero_y w.corrections) vr (gain w vr)) m.parts)
     (also_seen m.seen Voltage) m))
 
 -- by R34; any other is turned down
-unfoldable pub take : Instrument → Ranges → ℕ → Codes → Measured → Taken
+unfoldable pub take : Instrument → Ranges → ℕ → Codes → Measured → Option Measured
 take w r stat codes m =
     cond (eqb stat r34_xy) (take_xy w r codes m)
     (cond (eqb stat r34_xx) (take_xx w r.ik codes m)
-    (cond (eqb stat r34_yy) (take_yy w r.vr codes m) (turned_down m)))
+    (cond (eqb stat r34_yy) (take_yy w r.vr codes m) None))
 
 -- ---- the alternating method
 
@@ -114,11 +113,11 @@ take_alt_i w ik root lpf m =
     (also_seen m.seen Current) m
 
 -- `phase & 1 == 0` is the V phase
-unfoldable pub take_alt : Instrument → Ranges → ℕ → Codes → Measured → Taken
+unfoldable pub take_alt : Instrument → Ranges → ℕ → Codes → Measured → Option Measured
 take_alt w r phase codes m =
     let root = rms_root codes.rms in
-    cond (root_too_large root) (turned_down m)
-    (accepted (cond (eqb (phase % 2) 0) (take_alt_v w r.vr root m) (take_alt_i w r.ik root codes.lpf m)))
+    cond (root_too_large root) None
+    (Some (cond (eqb (phase % 2) 0) (take_alt_v w r.vr root m) (take_alt_i w r.ik root codes.lpf m)))
 
 -- ---- the DC row
 

@@ -1,3 +1,3 @@
 pub mod Nearest
-pub mod Cases
+pub mod Nan
 pub mod Stated

@@ -10,6 +10,7 @@ use lib.Ieee.{Float, nan, add, div, of_bits, of_int, round}
 use Rattle.tables.specs.declared.calibration.Calibration.{Calibration}
 use Rattle.tables.specs.declared.description.Description.{Description}
 use Rattle.numbers.proofs.Cases.{either}
+use Rattle.std.specs.Prelude.{None}
 use Rattle.numbers.specs.Convert.{narrow}
 use Rattle.figures.specs.Acc.{watt_hours}
 use Rattle.figures.specs.declared.tally.Tally.{Tally}
@@ -22,17 +23,17 @@ use Rattle.state.specs.Counting.{elapsed}
 use Rattle.state.specs.Fresh.{new_pw}
 use Rattle.values.specs.declared.floors.Reached.{Reached}
 use Rattle.values.specs.declared.marks.Countdown.{Countdown}
-use Rattle.values.specs.declared.vals.Vals.TheVariants.{NoValues}
+use Rattle.values.specs.declared.marks.Countdown.TheVariants.{Left, Expired}
 use Rattle.values.specs.PowerVals.{zero_vals}
 use Rattle.values.specs.Methods.{alternating, measured}
 use Rattle.values.specs.Load.{alt_figures, load_figures}
-use Rattle.values.specs.Marks.{over_elapsed, seconds_left, over_limit}
+use Rattle.values.specs.Marks.{over_number, over_left, over_elapsed, seconds_left, over_limit}
 use Rattle.values.specs.Energy.{mean_power, energies}
 use Rattle.values.specs.Vals.{in_force, pw_vals, state_only, pw_state}
 
 -- ---- when there are values
 
-pub off_has_none : (m : Pw) → m.mode.on ≡ false → pw_vals m ≡ NoValues
+pub off_has_none : (m : Pw) → m.mode.on ≡ false → pw_vals m ≡ None
 unfolding pw_vals measured
 off_has_none m h = rw h
 
@@ -49,17 +50,17 @@ unfolding over_elapsed
 over_in_full tPoll t0 h = omega (arith, h)
 
 -- while it counts down there is a second left at least, and no more than the limit; else none
-abbrev Left : ℕ → Countdown → Type 0
-Left tLim n = ((n.over ≡ 1) × (1 ≤ n.over_left) × (n.over_left ≤ tLim)) ⊎ ((n.over_left ≡ 0) × ((n.over ≡ 0) ⊎ (n.over ≡ 2)))
+abbrev CountsDown : ℕ → Countdown → Type 0
+CountsDown tLim n = ((over_number n ≡ 1) × (1 ≤ over_left n) × (over_left n ≤ tLim)) ⊎ ((over_left n ≡ 0) × ((over_number n ≡ 0) ⊎ (over_number n ≡ 2)))
 
-left_by : (t : Bool) (tLim el : ℕ) → ltb el tLim ≡ t → Left tLim (seconds_left tLim el)
-unfolding seconds_left
-left_by true tLim el h = subst (λ (b : Bool). Left tLim (cond b (record { over = 1; over_left = tLim - el }) (record { over = 2; over_left = 0 }))) (sym h) (inl (refl, omega (arith, ltb-true el tLim h), omega arith))
-left_by false tLim el h = subst (λ (b : Bool). Left tLim (cond b (record { over = 1; over_left = tLim - el }) (record { over = 2; over_left = 0 }))) (sym h) (inr (refl, inr refl))
+left_by : (t : Bool) (tLim el : ℕ) → ltb el tLim ≡ t → CountsDown tLim (seconds_left tLim el)
+unfolding seconds_left over_number over_left
+left_by true tLim el h = subst (λ (b : Bool). CountsDown tLim (cond b (Left (tLim - el)) Expired)) (sym h) (inl (refl, omega (arith, ltb-true el tLim h), omega arith))
+left_by false tLim el h = subst (λ (b : Bool). CountsDown tLim (cond b (Left (tLim - el)) Expired)) (sym h) (inr (refl, inr refl))
 
-pub seconds_left_law : (t0 : Stamp) (tLim tPoll : ℕ) → Left tLim (over_limit t0 tLim tPoll)
-unfolding over_limit
-seconds_left_law t0 tLim tPoll = either (Left tLim) (t0.set && ltb 0 tLim) (left_by _ tLim (over_elapsed tPoll t0.at) refl) (inr (refl, inl refl))
+pub seconds_left_law : (t0 : Stamp) (tLim tPoll : ℕ) → CountsDown tLim (over_limit t0 tLim tPoll)
+unfolding over_limit over_number over_left
+seconds_left_law t0 tLim tPoll = either (CountsDown tLim) (t0.set && ltb 0 tLim) (left_by _ tLim (over_elapsed tPoll t0.at) refl) (inr (refl, inl refl))
 
 -- below 2^32 seconds `secs` are the seconds counted
 pub secs_in_full : (active : Bool) (t : Tally) → t.t_int < 4294967296000 → (energies active t).secs ≡ t.t_int / 1000

@@ -1,4 +1,4 @@
--- The values as the code divides them: by the parts of a meter that a frame's accounting leaves, and those that it changes. The contracts of `load_of` and `values_of` speak of it; a reader of `pw_vals` need not believe it: the function `values` is built of them, and its contract is `values` of specs/Vals.antt.
+-- The values as the code divides them: by the parts of a meter that a frame's accounting leaves, and those that it changes. The contracts of `Basis::load` and `Basis::values` speak of it; a reader of `pw_vals` need not believe it: the function `values` is built of them, and its contract is `values` of specs/Vals.antt.
 use Rattle.std.specs.Prelude.{Bool, not}
 use Rattle.numbers.specs.Binary32.{◌*f◌}
 use Rattle.figures.specs.declared.load.Figures.{Figures}
@@ -11,7 +11,7 @@ use Rattle.values.specs.declared.vals.Changing.{Changing}
 use Rattle.values.specs.Methods.{alternating}
 use Rattle.values.specs.Floors.{floors_reached, kept_if, used_parts}
 use Rattle.values.specs.Load.{path_ohms, load_figures, split}
-use Rattle.values.specs.Marks.{over_limit, limits_of, hint, frequency}
+use Rattle.values.specs.Marks.{over_limit, limits_of, hint, hint_shown, frequency}
 use Rattle.values.specs.Energy.{energies}
 use Rattle.values.specs.Vals.{dc_volts, dc_amperes}
 
@@ -64,6 +64,6 @@ values_of b load c =
       ranges = b.ranges;
       in_force = in_force_of b c.clock.run c.phase_cal;
       limits = limits_of b.over b.ranges b.parts (over_limit c.over_t0 b.settings.t_lim c.clock.t_poll);
-      hint = hint b.mode b.seen b.ranges b.parts a;
+      hint = hint_shown (hint b.mode b.seen b.ranges b.parts a);
       split = split b.mode used (kept_if b.settings.comp ohms);
     }

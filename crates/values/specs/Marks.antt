@@ -1,5 +1,5 @@
 -- The marks of `pw_vals` of the source: `over` and `over_left`, `v_ol` and `i_ol`, `hint`, and `f_ok`, which document 01 carries "in place of `f_hz`".
-use Rattle.std.specs.Prelude.{Bool, true, false, cond, not, ◌&&◌, ◌||◌, ℕ, ◌-◌, ◌/◌, ◌%◌, ◌^◌, eqb, ltb, Float}
+use Rattle.std.specs.Prelude.{Bool, true, false, cond, not, ◌&&◌, ◌||◌, ℕ, ◌-◌, ◌/◌, ◌%◌, ◌^◌, eqb, ltb, Option, None, Some, Float}
 use Rattle.std.specs.Float.{nan}
 use Rattle.std.specs.Float.Ieee.{lt, le}
 use Rattle.numbers.specs.Binary32.{◌*f◌, abs_of}
@@ -17,6 +17,9 @@ use Rattle.state.specs.Counting.{elapsed}
 use Rattle.state.specs.Seen.{has_seen}
 use Rattle.values.specs.declared.floors.Reached.{Reached}
 use Rattle.values.specs.declared.marks.Countdown.{Countdown}
+use Rattle.values.specs.declared.marks.Countdown.TheVariants.{Stopped, Left, Expired}
+use Rattle.values.specs.declared.marks.Hint.{Hint}
+use Rattle.values.specs.declared.marks.Hint.TheVariants.{NoAc, Ac}
 use Rattle.values.specs.declared.power_vals.Limits.{Limits}
 use Rattle.values.specs.Methods.{simultaneous, ac_dc}
 use Rattle.values.specs.Floors.{floor_of_v, floor_of_i}
@@ -25,13 +28,24 @@ use Rattle.values.specs.Floors.{floor_of_v, floor_of_i}
 unfoldable pub over_elapsed : ℕ → ℕ → ℕ
 over_elapsed tPoll t0 = elapsed tPoll t0 / 1000 % 2 ^ 16
 
+-- `(over, over_left)` of the source: (0, 0) for none, (1, the seconds left), (2, 0) once they are over
+unfoldable pub over_number : Countdown → ℕ
+over_number Stopped = 0
+over_number (Left seconds) = 1
+over_number Expired = 2
+
+unfoldable pub over_left : Countdown → ℕ
+over_left Stopped = 0
+over_left (Left seconds) = seconds
+over_left Expired = 0
+
 -- `if el >= t_lim { (2, 0) } else { (1, t_lim - el) }`
 unfoldable pub seconds_left : ℕ → ℕ → Countdown
-seconds_left tLim el = cond (ltb el tLim) (record { over = 1; over_left = tLim - el }) (record { over = 2; over_left = 0 })
+seconds_left tLim el = cond (ltb el tLim) (Left (tLim - el)) Expired
 
--- (0, 0) where no `over_t0` is set, and where `t_lim` is 0
+-- none where no `over_t0` is set, and where `t_lim` is 0
 unfoldable pub over_limit : Stamp → ℕ → ℕ → Countdown
-over_limit t0 tLim tPoll = cond (t0.set && ltb 0 tLim) (seconds_left tLim (over_elapsed tPoll t0.at)) (record { over = 0; over_left = 0 })
+over_limit t0 tLim tPoll = cond (t0.set && ltb 0 tLim) (seconds_left tLim (over_elapsed tPoll t0.at)) Stopped
 
 -- `v_ol`: `hypot(v_ac, v_dc) > over() * V_LIM[vr]`, and `i_ol` alike; `over` is the description's
 unfoldable pub limits_of : Float → Ranges → Parts → Countdown → Limits
@@ -39,8 +53,8 @@ limits_of over r p count =
     record {
       v_ol = lt (over *f entry_at nan v_lim r.vr) (hypot_of p.v_ac p.v_dc);
       i_ol = lt (over *f entry_at nan i_lim r.ik) (hypot_of p.i_ac p.i_dc);
-      over = count.over;
-      over_left = count.over_left;
+      over = over_number count;
+      over_left = over_left count;
     }
 
 -- of a meter
@@ -59,8 +73,18 @@ dc_is_better m r p a = ac_dc m && (not a.v_ok && (not a.i_ok && dc_signal r p))
 unfoldable pub ac_is_missed : Mode → ℕ → ℕ → Float → Bool
 ac_is_missed m seen vr vacDc = m.dc && (has_seen seen Voltage && le (floor_of_v vr) vacDc)
 
-unfoldable pub hint : Mode → ℕ → Ranges → Parts → Reached → ℕ
-hint m seen r p a = cond (dc_is_better m r p a) hint_no_ac (cond (ac_is_missed m seen r.vr p.vac_dc) hint_ac 0)
+unfoldable pub hint : Mode → ℕ → Ranges → Parts → Reached → Option Hint
+hint m seen r p a = cond (dc_is_better m r p a) (Some NoAc) (cond (ac_is_missed m seen r.vr p.vac_dc) (Some Ac) None)
+
+-- HINT_NO_AC and HINT_AC
+unfoldable pub hint_number : Hint → ℕ
+hint_number NoAc = hint_no_ac
+hint_number Ac = hint_ac
+
+-- 0 where there is none
+unfoldable pub hint_shown : Option Hint → ℕ
+hint_shown None = 0
+hint_shown (Some h) = hint_number h
 
 -- no in DC coupling; in method B the comparator's, and the AC part of the channel that it watches (the current on PB4, else the V tap) reaches its floor; in the alternating method yes
 unfoldable pub frequency : Mode → Comparator → Reached → Bool

@@ -1,5 +1,5 @@
 -- `pw_vals`, `pw_state` and `integrating` of the source.
-use Rattle.std.specs.Prelude.{Bool, false, cond, not, ◌&&◌, ◌||◌, Float}
+use Rattle.std.specs.Prelude.{Bool, false, cond, not, ◌&&◌, ◌||◌, Option, None, Some, unwrap_or, Float}
 use Rattle.std.specs.Float.{nan}
 use Rattle.std.specs.Float.Ieee.{lt}
 use Rattle.numbers.specs.Binary32.{◌*f◌}
@@ -11,13 +11,11 @@ use Rattle.state.specs.declared.Quantity.TheVariants.{Current}
 use Rattle.state.specs.Seen.{has_seen}
 use Rattle.values.specs.declared.power_vals.InForce.{InForce}
 use Rattle.values.specs.declared.power_vals.PowerVals.{PowerVals}
-use Rattle.values.specs.declared.vals.Vals.{Vals}
-use Rattle.values.specs.declared.vals.Vals.TheVariants.{NoValues, Measured}
 use Rattle.values.specs.PowerVals.{unmeasured}
 use Rattle.values.specs.Methods.{alternating, ac_only, measured}
 use Rattle.values.specs.Floors.{floors_reached, kept_if, used_parts}
 use Rattle.values.specs.Load.{path_ohms, load_figures, split}
-use Rattle.values.specs.Marks.{limits, hint, frequency}
+use Rattle.values.specs.Marks.{limits, hint, hint_shown, frequency}
 use Rattle.values.specs.Energy.{energies}
 
 -- `alt` of the values is `pw.alt && !pw.dc`
@@ -58,25 +56,21 @@ values m =
       ranges = m.ranges;
       in_force = in_force m;
       limits = limits m;
-      hint = hint m.mode m.cycle.seen m.ranges m.parts a;
+      hint = hint_shown (hint m.mode m.cycle.seen m.ranges m.parts a);
       split = split m.mode used r;
     }
 
 -- "None before V, I and P were measured", and while off
-unfoldable pub pw_vals : Pw → Vals
-pw_vals m = cond (measured m.mode m.cycle.seen) (Measured (values m)) NoValues
+unfoldable pub pw_vals : Pw → Option PowerVals
+pw_vals m = cond (measured m.mode m.cycle.seen) (Some (values m)) None
 
 -- "before the first full set the settings / ranges with zero values": energies too, with no mean power
 unfoldable pub state_only : Pw → PowerVals
 state_only m = unmeasured (energies false m.tally) m.ranges (in_force m)
 
 -- `unwrap_or_else`
-abbrev pub values_or : PowerVals → Vals → PowerVals
-values_or other (Measured v) = v
-values_or other NoValues = other
-
 unfoldable pub pw_state : Pw → PowerVals
-pw_state m = values_or (state_only m) (pw_vals m)
+pw_state m = unwrap_or (pw_vals m) (state_only m)
 
 -- `on && run && seen & 4 != 0 && hypot(i_ac, i_dc) > I_FLOOR`
 unfoldable pub integrating : Pw → Bool

@@ -8,32 +8,27 @@ use figures::tally::Tally;
 
 // The mean power in W over the time counted; a NaN before any is counted, and where the active
 // energy is not.
+#[tactic(auto, using(crate::proofs::Nan::nan_is), unfolding(crate::specs::Energy::mean_power))]
 fn mean_power(active: bool, wh: f32, t_int: u64) -> f32
     ensures { result ≡ mean_power active wh t_int }
 {
-    if t_int > 0 {
-        if active {
-            return wh * 3.6e6 / numbers::u64_to_f32(t_int);
-        }
-        return numbers::nan();
+    if t_int > 0 && active {
+        wh * 3.6e6 / numbers::u64_to_f32(t_int)
+    } else {
+        f32::NAN
     }
-    numbers::nan()
 }
 
 /// Both energies, the seconds, of which the low 32 bits count, and the mean power.
+#[tactic(auto, unfolding(crate::specs::Energy::energies))]
 pub(crate) fn energies(active: bool, tally: Tally) -> Energies
     ensures { result ≡ energies active tally }
 {
-    let e = tally.e;
-    let va = tally.va;
-    let t_int = tally.t_int;
-    let e_wh = Acc::wh(e);
-    let vah = Acc::wh(va);
-    let p_avg = mean_power(active, e_wh, t_int);
+    let e_wh = Acc::wh(tally.e);
     Energies {
         e_wh,
-        vah,
-        secs: (t_int / 1000 % 4294967296) as u32,
-        p_avg,
+        vah: Acc::wh(tally.va),
+        secs: (tally.t_int / 1000 % 4294967296) as u32,
+        p_avg: mean_power(active, e_wh, tally.t_int),
     }
 }

@@ -6,55 +6,42 @@ use state::{Mode, Quantity, both_seen, has_seen};
 use tables::constants::{COUP_AC, COUP_ACDC};
 
 /// The alternating method, over which DC coupling takes precedence.
+#[tactic(auto, unfolding(crate::specs::Methods::alternating))]
 pub fn alternating(mode: Mode) -> bool
     ensures { result ≡ alternating mode }
 {
-    if mode.alt { !mode.dc } else { false }
+    mode.alt && !mode.dc
 }
 
 /// The simultaneous method (method B), the source's `b`.
+#[tactic(auto, unfolding(crate::specs::Methods::simultaneous))]
 pub(crate) fn simultaneous(mode: Mode) -> bool
     ensures { result ≡ simultaneous mode }
 {
-    if mode.alt { false } else { !mode.dc }
+    !mode.alt && !mode.dc
 }
 
 /// AC coupling, where the DC parts are not used.
+#[tactic(auto, unfolding(crate::specs::Methods::ac_only))]
 pub(crate) fn ac_only(mode: Mode) -> bool
     ensures { result ≡ ac_only mode }
 {
-    if mode.coup == COUP_AC {
-        !mode.dc
-    } else {
-        false
-    }
+    mode.coup == COUP_AC && !mode.dc
 }
 
 /// The simultaneous method in AC+DC coupling.
+#[tactic(auto, unfolding(crate::specs::Methods::ac_dc))]
 pub(crate) fn ac_dc(mode: Mode) -> bool
     ensures { result ≡ ac_dc mode }
 {
-    if simultaneous(mode) {
-        mode.coup == COUP_ACDC
-    } else {
-        false
-    }
+    simultaneous(mode) && mode.coup == COUP_ACDC
 }
 
 /// Whether the meter is on and has measured all that its method needs: voltage and current, and the
 /// power too outside the alternating method.
+#[tactic(auto, unfolding(crate::specs::Methods::measured))]
 pub fn measured(mode: Mode, seen: u8) -> bool
     ensures { result ≡ measured mode seen }
 {
-    if mode.on {
-        if both_seen(seen) {
-            return if alternating(mode) {
-                true
-            } else {
-                has_seen(seen, Quantity::Power)
-            };
-        }
-        return false;
-    }
-    false
+    mode.on && both_seen(seen) && (alternating(mode) || has_seen(seen, Quantity::Power))
 }

@@ -1,6 +1,6 @@
-//! The values of a reading: the source's `PowerVals`, in one struct for each group of them.
+//! The values of a reading: the source's `PowerVals`, in one struct for each group of them. Kinds stay numbers and
+//! marks here: a C host is handed these structs as they are.
 ghost use Rattle.std.specs.Prelude.{◌≡◌};
-ghost use Rattle.values.specs.PowerVals.{zero_vals};
 
 use figures::load::Figures;
 use state::Ranges;
@@ -89,9 +89,8 @@ impl Split {
 }
 
 impl PowerVals {
-    // The source's ZERO in all but the mean power, which is a NaN there. So it is not public: `zero`
-    // gives the whole record.
-    const ZERO: PowerVals = PowerVals {
+    /// The source's `PowerVals::ZERO`, with `f_ok` no.
+    pub const ZERO: PowerVals = PowerVals {
         load: Figures {
             p: 0.0,
             s: 0.0,
@@ -108,7 +107,7 @@ impl PowerVals {
             e_wh: 0.0,
             vah: 0.0,
             secs: 0,
-            p_avg: 0.0, // the one that is not the source's
+            p_avg: f32::NAN,
         },
         ranges: Ranges {
             vr: 3,
@@ -134,14 +133,16 @@ impl PowerVals {
         hint: 0,
         split: Split::ZERO,
     };
+}
 
-    /// The source's `PowerVals::ZERO`, with `f_ok` no.
-    pub fn zero() -> PowerVals
-        ensures { result ≡ zero_vals }
-    {
-        let none = numbers::nan();
-        let mut vals = PowerVals::ZERO;
-        vals.energies.p_avg = none;
-        vals
+/// What there is with nothing measured.
+impl Default for PowerVals {
+    ghost use Rattle.values.specs.PowerVals.{zero_vals};
+
+    ghost is_default = { λ vals. vals ≡ zero_vals };
+
+    #[tactic(auto, using(crate::proofs::Nan::nan_is), unfolding(crate::specs::PowerVals::zero_vals))]
+    fn default() -> PowerVals {
+        PowerVals::ZERO
     }
 }

@@ -1,12 +1,11 @@
 //! `pw_vals`, `pw_state` and `integrating` of the source: what a whole meter shows.
-ghost use Rattle.std.specs.Prelude.{◌≡◌};
-ghost use Rattle.values.specs.Vals.{dc_volts, dc_amperes, values, pw_vals, state_only, pw_state, integrating};
-ghost use Rattle.values.specs.Divided.{in_force_of, load_of, values_of, basis_in, changing_in};
+ghost use Rattle.std.specs.Prelude.{◌≡◌, cond};
+ghost use Rattle.std.specs.Float.{nan};
+ghost use Rattle.values.specs.Vals.{values, pw_vals, state_only, pw_state, integrating};
 
 use crate::energy::energies;
-use crate::floors::{floors_reached, kept_if, used_parts};
-use crate::load::{load_figures, path_ohms, split};
-use crate::marks::{frequency, hint, limits_of, over_limit};
+use crate::floors::kept_if;
+use crate::marks::{hint_shown, over_limit};
 use crate::methods::{ac_only, alternating, measured};
 use crate::power_vals::{InForce, PowerVals};
 use figures::load::Figures;
@@ -15,13 +14,6 @@ use state::{
     Clock, Comparator, Mode, Parts, PhaseCal, Pw, Quantity, Ranges, Settings, Stamp, has_seen,
 };
 use tables::constants::I_FLOOR;
-
-/// The source's `Option<PowerVals>`: none while off, and before all that the method needs is measured.
-#[derive(Clone, Copy)]
-pub enum Vals {
-    NoValues,
-    Measured(PowerVals),
-}
 
 /// What the values are worked out from and a frame's accounting leaves: `over` is the description's, `seen` the
 /// cycle's; of the mode `cal_req` is not looked at.
@@ -46,185 +38,157 @@ pub struct Changing {
     pub phase_cal: PhaseCal,
 }
 
-fn in_force_of(basis: Basis, run: bool, phase_cal: PhaseCal) -> InForce
-    ensures { result ≡ in_force_of basis run phase_cal }
-{
-    let alt = alternating(basis.mode);
-    InForce {
-        alt,
-        dc: basis.mode.dc,
-        coup: basis.mode.coup,
-        comp: basis.settings.comp,
-        run,
-        sph: phase_cal.sph,
-        main: basis.settings.main,
+impl From<Pw> for Basis {
+    ghost use Rattle.values.specs.Divided.{basis_in};
+
+    ghost from_gives = { λ pw basis. basis ≡ basis_in pw };
+
+    #[tactic(auto, unfolding(crate::specs::Divided::basis_in))]
+    fn from(pw: Pw) -> Basis {
+        Basis {
+            mode: pw.mode,
+            ranges: pw.ranges,
+            parts: pw.parts,
+            seen: pw.cycle.seen,
+            comparator: pw.comparator,
+            settings: pw.settings,
+            over: pw.description.over,
+        }
     }
 }
 
-// The measured DC volts; a NaN in the alternating method and in AC coupling.
-fn dc_volts(mode: Mode, v_dc: f32) -> f32
-    ensures { result ≡ dc_volts mode v_dc }
-{
-    if alternating(mode) {
-        return numbers::nan();
-    }
-    if ac_only(mode) {
-        return numbers::nan();
-    }
-    v_dc
-}
+impl From<Pw> for Changing {
+    ghost use Rattle.values.specs.Divided.{changing_in};
 
-// The measured DC amperes; a NaN in AC coupling.
-fn dc_amperes(mode: Mode, i_dc: f32) -> f32
-    ensures { result ≡ dc_amperes mode i_dc }
-{
-    if ac_only(mode) {
-        return numbers::nan();
-    }
-    i_dc
-}
+    ghost from_gives = { λ pw changing. changing ≡ changing_in pw };
 
-/// The figures of the load: power, apparent and reactive power, power factor, volts and amperes.
-pub fn load_of(basis: Basis) -> Figures
-    ensures { result ≡ load_of basis }
-{
-    let mode = basis.mode;
-    let ranges = basis.ranges;
-    let parts = basis.parts;
-    let a = floors_reached(ranges, parts);
-    let used = used_parts(mode, a, parts);
-    let ohms = path_ohms(basis.settings, ranges.ik);
-    let r = kept_if(basis.settings.comp, ohms);
-    load_figures(mode, a, ranges, used, r)
-}
-
-/// All values, with these figures of the load.
-pub fn values_of(basis: Basis, load: Figures, changing: Changing) -> PowerVals
-    ensures { result ≡ values_of basis load changing }
-{
-    let mode = basis.mode;
-    let ranges = basis.ranges;
-    let parts = basis.parts;
-    let settings = basis.settings;
-    let a = floors_reached(ranges, parts);
-    let used = used_parts(mode, a, parts);
-    let ohms = path_ohms(settings, ranges.ik);
-    let r = kept_if(settings.comp, ohms);
-    let vdc = dc_volts(mode, parts.v_dc);
-    let idc = dc_amperes(mode, parts.i_dc);
-    let f_ok = frequency(mode, basis.comparator, a);
-    let hint = hint(mode, basis.seen, ranges, parts, a);
-    let split = split(mode, used, r);
-    let energies = energies(!alternating(mode), changing.tally);
-    let in_force = in_force_of(basis, changing.clock.run, changing.phase_cal);
-    let count = over_limit(changing.over_t0, settings.t_lim, changing.clock.t_poll);
-    let limits = limits_of(basis.over, ranges, parts, count);
-    PowerVals {
-        load,
-        vdc,
-        idc,
-        f_ok,
-        burden_v: load.i * ohms,
-        energies,
-        ranges,
-        in_force,
-        limits,
-        hint,
-        split,
+    #[tactic(auto, unfolding(crate::specs::Divided::changing_in))]
+    fn from(pw: Pw) -> Changing {
+        Changing {
+            tally: pw.tally,
+            clock: pw.clock,
+            over_t0: pw.over_t0,
+            phase_cal: pw.phase_cal,
+        }
     }
 }
 
-fn basis_in(pw: Pw) -> Basis
-    ensures { result ≡ basis_in pw }
+// x, or a NaN where it is not to be had.
+#[tactic(auto, using(crate::proofs::Nan::nan_is))]
+fn nan_if(hidden: bool, x: f32) -> f32
+    ensures { result ≡ cond hidden nan x }
 {
-    let mode = pw.mode;
-    let ranges = pw.ranges;
-    let parts = pw.parts;
-    let comparator = pw.comparator;
-    let settings = pw.settings;
-    Basis {
-        mode,
-        ranges,
-        parts,
-        seen: pw.cycle.seen,
-        comparator,
-        settings,
-        over: pw.description.over,
-    }
+    if hidden { f32::NAN } else { x }
 }
 
-fn changing_in(pw: Pw) -> Changing
-    ensures { result ≡ changing_in pw }
-{
-    let tally = pw.tally;
-    let clock = pw.clock;
-    let over_t0 = pw.over_t0;
-    let phase_cal = pw.phase_cal;
-    Changing {
-        tally,
-        clock,
-        over_t0,
-        phase_cal,
+impl Basis {
+    ghost use Rattle.values.specs.Divided.{in_force_of, load_of, values_of};
+
+    #[tactic(auto, unfolding(crate::specs::Divided::in_force_of))]
+    fn in_force(self, run: bool, phase_cal: PhaseCal) -> InForce
+        ensures { result ≡ in_force_of self run phase_cal }
+    {
+        InForce {
+            alt: alternating(self.mode),
+            dc: self.mode.dc,
+            coup: self.mode.coup,
+            comp: self.settings.comp,
+            run,
+            sph: phase_cal.sph,
+            main: self.settings.main,
+        }
+    }
+
+    /// The figures of the load: power, apparent and reactive power, power factor, volts and amperes.
+    #[tactic(auto, unfolding(crate::specs::Divided::load_of))]
+    pub fn load(self) -> Figures
+        ensures { result ≡ load_of self }
+    {
+        let reached = self.reached();
+        let used = self.used_parts(reached);
+        let r = kept_if(self.settings.comp, self.path_ohms());
+        self.load_figures(reached, used, r)
+    }
+
+    /// All values, with these figures of the load.
+    #[tactic(auto, unfolding(crate::specs::Divided::values_of, crate::specs::Vals::dc_volts, crate::specs::Vals::dc_amperes))]
+    pub fn values(self, load: Figures, changing: Changing) -> PowerVals
+        ensures { result ≡ values_of self load changing }
+    {
+        let reached = self.reached();
+        let used = self.used_parts(reached);
+        let ohms = self.path_ohms();
+        let alt = alternating(self.mode);
+        let ac = ac_only(self.mode);
+        let count = over_limit(changing.over_t0, self.settings.t_lim, changing.clock.t_poll);
+        PowerVals {
+            load,
+            vdc: nan_if(alt || ac, self.parts.v_dc),
+            idc: nan_if(ac, self.parts.i_dc),
+            f_ok: self.frequency(reached),
+            burden_v: load.i * ohms,
+            energies: energies(!alt, changing.tally),
+            ranges: self.ranges,
+            in_force: self.in_force(changing.clock.run, changing.phase_cal),
+            limits: self.limits(count),
+            hint: hint_shown(self.hint(reached)),
+            split: self.split(used, kept_if(self.settings.comp, ohms)),
+        }
     }
 }
 
 // All values, of a meter that has measured what its method needs.
+#[tactic(auto, unfolding(crate::specs::Vals::values, crate::specs::Divided::basis_in, crate::specs::Divided::changing_in, crate::specs::Vals::in_force, crate::specs::Divided::in_force_of, crate::specs::Divided::load_of, crate::specs::Divided::values_of, crate::specs::Marks::limits, crate::specs::Marks::limits_of))]
 fn values(pw: Pw) -> PowerVals
     ensures { result ≡ values pw }
 {
-    let basis = basis_in(pw);
-    let load = load_of(basis);
-    values_of(basis, load, changing_in(pw))
+    let basis = Basis::from(pw);
+    basis.values(basis.load(), Changing::from(pw))
 }
 
 /// The values, once voltage and current and what else the method needs are measured, while on.
-pub fn pw_vals(pw: Pw) -> Vals
+#[tactic(auto, unfolding(crate::specs::Vals::pw_vals))]
+pub fn pw_vals(pw: Pw) -> Option<PowerVals>
     ensures { result ≡ pw_vals pw }
 {
     if measured(pw.mode, pw.cycle.seen) {
-        return Vals::Measured(values(pw));
+        Some(values(pw))
+    } else {
+        None
     }
-    Vals::NoValues
 }
 
-// The ranges, what is in force and the energies, with no mean, beside the zeros of
-// `PowerVals::zero`.
+// The ranges, what is in force and the energies, with no mean, beside zeros.
+#[tactic(auto, unfolding(crate::specs::Vals::state_only, crate::specs::Divided::basis_in, crate::specs::Divided::in_force_of, crate::specs::Vals::in_force))]
 fn state_only(pw: Pw) -> PowerVals
     ensures { result ≡ state_only pw }
 {
-    let energies = energies(false, pw.tally);
-    let ranges = pw.ranges;
-    let basis = basis_in(pw);
-    let in_force = in_force_of(basis, pw.clock.run, pw.phase_cal);
-    let mut vals = PowerVals::zero();
-    vals.energies = energies;
-    vals.ranges = ranges;
-    vals.in_force = in_force;
-    vals
+    PowerVals {
+        energies: energies(false, pw.tally),
+        ranges: pw.ranges,
+        in_force: Basis::from(pw).in_force(pw.clock.run, pw.phase_cal),
+        ..PowerVals::ZERO
+    }
 }
 
 /// The values; where there are none, what is known without them.
+#[tactic(auto, unfolding(crate::specs::Vals::pw_state))]
 pub fn pw_state(pw: Pw) -> PowerVals
     ensures { result ≡ pw_state pw }
 {
-    let vals = pw_vals(pw);
-    match vals {
-        Vals::Measured(v) => v,
-        Vals::NoValues => state_only(pw),
+    match pw_vals(pw) {
+        Some(vals) => vals,
+        None => state_only(pw),
     }
 }
 
 /// Whether energy is being counted with a current above I_FLOOR.
+#[tactic(auto, unfolding(crate::specs::Vals::integrating))]
 pub fn integrating(pw: Pw) -> bool
     ensures { result ≡ integrating pw }
 {
-    let i = numbers::hypot(pw.parts.i_ac, pw.parts.i_dc);
-    if pw.mode.on {
-        if pw.clock.run {
-            if has_seen(pw.cycle.seen, Quantity::Current) {
-                return i > I_FLOOR;
-            }
-        }
-    }
-    false
+    pw.mode.on
+        && pw.clock.run
+        && has_seen(pw.cycle.seen, Quantity::Current)
+        && numbers::hypot(pw.parts.i_ac, pw.parts.i_dc) > I_FLOOR
 }

@@ -1,16 +1,21 @@
 -- The callees, one after the other.
-use mathlib.Core.Path.{ap, ◌∙◌}
-use Rattle.meter.specs.declared.frame.Entered.{Entered}
-use Rattle.meter.specs.Divided.{measurement_by, measurement}
+use mathlib.Core.Path.{◌≡◌, sym, ap, ◌∙◌}
+use borrow.Author.Rules.{rules}
+use Rattle.std.specs.Prelude.{Err}
+use Rattle.meter.specs.Divided.{measurement_with, measurement_by, measurement}
 use Rattle.meter.proofs.frame.measure.Goals as goal
+
+pub returns-in_err-entered : goal.returns-in_err-entered
+unfolding measurement
+returns-in_err-entered c =
+    let path = simp (c.measuring_in-found.ensures, c.setup_in-setup.ensures) at c.frame-outcome.ensures in
+    let entered = simp (c.ledger_after-unposted.ensures, c.basis_after-basis.ensures) at c.entry.ensures in
+    let r : c.from_residual.result ≡ Err c.in_err-entered.field-0.0 = search rules in
+    r ∙ ap (measurement_with c.frame-outcome.result) (sym c.in_err-entered.was ∙ entered) ∙ ap (measurement_by c.args.before c.args.time) path
 
 pub returns : goal.returns
 unfolding measurement
 returns c =
-    let m = c.args.before in
-    let t = c.args.time in
-    let o = c.frame-outcome.result in
-    let path = simp (c.measuring_in-found.ensures, c.instrument_in-with.ensures) at c.frame-outcome.ensures in
-    let entered = simp (c.ledger_after-unposted.ensures, c.basis_after-basis.ensures) at c.entry-entry.ensures in
-    ap (λ (e : Entered). record { measuring = o.measuring; ledger = e.ledger; mark = o.mark; reading = e.reading; ad1_taken = o.ad1_taken; full = e.full }) entered
-    ∙ ap (measurement_by m t) path
+    let path = simp (c.measuring_in-found.ensures, c.setup_in-setup.ensures) at c.frame-outcome.ensures in
+    let entered = simp (c.ledger_after-unposted.ensures, c.basis_after-basis.ensures) at c.entry.ensures in
+    ap (measurement_with c.frame-outcome.result) (sym c.in_ok-entered.was ∙ entered) ∙ ap (measurement_by c.args.before c.args.time) path

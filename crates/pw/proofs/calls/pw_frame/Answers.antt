@@ -1,30 +1,21 @@
--- By what becomes of the frame; outside a job by whether the accounting is full.
-use mathlib.Core.Path.{ap, sym, ◌∙◌}
+-- A measured frame that is not refused.
+use mathlib.Core.Path.{◌≡◌, sym, ap, ◌∙◌}
+use borrow.Author.Rules.{rules}
+use Rattle.std.specs.Prelude.{Ok}
+use Rattle.meter.specs.declared.frame.Opened.TheVariants.{Outside}
 use Rattle.host.specs.Stepped.{host_step}
-use Rattle.meter.specs.Frame.{polled_step, in_job}
-use Rattle.meter.proofs.Entered.{step_full_law, step_done_law, poll_opened_law}
+use Rattle.meter.specs.Divided.{poll_opened}
+use Rattle.meter.proofs.Entered.{poll_opened_law, step_done_law}
 use Rattle.pw.proofs.calls.pw_frame.Goals as goal
 
-pub returns-in-Turned : goal.returns-in-Turned
-returns-in-Turned c =
-    let told = simp c.open_frame-frame.ensures at c.in-Turned.is in
-    c.host_refused.ensures ∙ ap host_step (sym (poll_opened_law c.args.meter c.args.time c.args.flags _ ∙ rw (told)))
-
-pub returns-in-InJob : goal.returns-in-InJob
-unfolding in_job
-returns-in-InJob c =
-    let told = simp c.open_frame-frame.ensures at c.in-InJob.is in
-    c.host_done.ensures ∙ ap host_step (ap polled_step c.job_poll-polled.ensures ∙ sym (poll_opened_law c.args.meter c.args.time c.args.flags _ ∙ rw (told)))
-
-pub returns-then-made : goal.returns-then-made
-returns-then-made c =
-    let told = simp c.open_frame-frame.ensures at c.in-Outside.is in
-    let x = c.measure-made in
-    c.host_refused-then-made.ensures ∙ ap host_step (step_full_law c.args.meter c.args.time c.args.flags _ x.result x.ensures c.if-made.true ∙ sym (poll_opened_law c.args.meter c.args.time c.args.flags _ ∙ rw (told)))
-
-pub returns-in-Outside : goal.returns-in-Outside
-returns-in-Outside c =
-    let told = simp c.open_frame-frame.ensures at c.in-Outside.is in
-    let x = c.measure-made in
+pub returns-in-Ok : goal.returns-in-Ok
+returns-in-Ok c =
+    let m = c.args.meter in
+    let t = c.args.time in
+    let flags = c.args.flags in
+    let x = c.measure in
     let n = c.after_measurement-after in
-    c.host_done-in-Outside.ensures ∙ ap host_step (step_done_law c.args.meter c.args.time c.args.flags _ x.result x.ensures c.if-made.false n.result n.ensures ∙ sym (poll_opened_law c.args.meter c.args.time c.args.flags _ ∙ rw (told)))
+    let opened : c.open_frame-frame.result ≡ Ok (Outside c.in-Ok-Outside.codes) = search rules in
+    c.host_done-in-Ok.ensures
+    ∙ ap host_step (step_done_law m t flags _ x.result x.ensures c.in-Ok.made c.in-Ok.is n.result n.ensures
+    ∙ (ap (poll_opened m t flags) (sym opened ∙ c.open_frame-frame.ensures) ∙ sym (poll_opened_law m t flags _)))

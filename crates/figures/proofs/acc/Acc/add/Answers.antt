@@ -1,14 +1,17 @@
--- The number, the record and the exact sum, by what the add of the record by value says.
-use mathlib.Core.Path.{ap, sym, subst}
-use Rattle.figures.specs.Acc.{after}
-use Rattle.figures.specs.Exact.{ExactAfter}
-use Rattle.figures.specs.declared.acc.After.{After}
+-- The exact sum, by what the add of the record by value says.
+use mathlib.Core.Path.{◌≡◌}
+use borrow.Author.Rules.{rules}
+use Rattle.std.specs.Prelude.{Err}
 use Rattle.figures.proofs.Exactly.{exactly_after}
 use Rattle.figures.proofs.acc.Acc.add.Goals as goal
 
-pub returns : goal.returns
-unfolding after
-returns c =
-    let h = c.args.self.now in
-    let e = c.after_add-after.ensures in
-    (ap (λ (y : After). y.refusal) e, ap (λ (y : After). y.acc) e, subst (λ (y : After). ExactAfter h c.args.joules y.refusal y.acc) (sym e) (exactly_after h c.args.joules))
+pub returns-in_err-sum-clause-exact : goal.returns-in_err-sum-clause-exact
+returns-in_err-sum-clause-exact c =
+    let e = exactly_after c.args.self.now c.args.joules c.add_to.result c.add_to.ensures.is in
+    let r : c.from_residual.result ≡ Err c.in_err-sum.field-0.0 = search rules in
+    rw r (simp c.in_err-sum.was at e)
+
+pub returns-clause-exact : goal.returns-clause-exact
+returns-clause-exact c =
+    let e = exactly_after c.args.self.now c.args.joules c.add_to.result c.add_to.ensures.is in
+    simp c.in_ok-sum.was at e

@@ -1,7 +1,0 @@
--- The callees.
-use mathlib.Core.Path.{ap, ◌∙◌}
-use Rattle.host.specs.Stepped.{host_step}
-use Rattle.pw.proofs.calls.pw_method.Goals as goal
-
-pub returns : goal.returns
-returns c = c.host_step.ensures ∙ ap host_step c.method.ensures
