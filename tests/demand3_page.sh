@@ -1,7 +1,7 @@
 #!/bin/bash
 # demand3_page.sh: docs/DEMAND3.md quotes the definitions as they stand, each in the file named above its table; its
-# tables of edits have those of crates/book and crates/host_calls, in their words; and the C functions that hand back a
-# meter are those that crates/host_calls calls, whose contracts state the theorem of them.
+# tables of edits have those of crates/book and crates/host_calls, in their words; and the C functions have the contracts
+# of those in crates/pw that crates/host_calls calls, whose contracts state the theorem of them.
 set -euo pipefail
 cd "$(dirname "${BASH_SOURCE[0]}")/.."
 page=docs/DEMAND3.md
@@ -51,7 +51,19 @@ there=$(find crates/{book,host_calls}/must-fail -name '*.edit' | wc -l)
 [ "$edits" -eq "$there" ] || fail "$edits edits on the page, $there in crates/book and crates/host_calls"
 [ "$quoted" -gt 0 ] || fail "no quotation was found"
 
-# Each C function that hands back a meter is one that a host's calls are run by.
+# What crates/pw_c exports has the contract of the function of crates/pw that it calls, word for word: the theorems are
+# over that crate's.
+contracts() { sed -n '/^pub .*fn /,/^{$/{/^{$/!p}' "$1" | sed 's/^pub extern "C" fn/pub fn/'; }
+exports=0
+for file in calls shown lib; do
+    diff <(contracts crates/pw/src/$file.rt) <(contracts crates/pw_c/src/$file.rt) || fail "contracts of crates/pw and crates/pw_c differ in $file.rt"
+    exports=$((exports + $(contracts crates/pw_c/src/$file.rt | grep -c '^pub fn')))
+done
+[ "$exports" -eq "$(grep -c 'no_mangle' crates/pw_c/src/*.rt | awk -F: '{n += $2} END {print n}')" ] || fail "$exports contracts were read"
+
+# Each C function that hands back a meter is one that a host's calls are run by, and they are all the calls there are.
 calls=$(sed -n 's/^pub extern "C" fn \([a-z_]*\)(.*-> HostStep$/\1/p' crates/pw_c/src/calls.rt | sort)
 diff <(echo "$calls") <(sed -n 's/.*=> pw::calls::\([a-z_]*\)(meter.*/\1/p' crates/host_calls/src/lib.rt | sort) || fail "the calls of crates/host_calls are others"
-echo "demand3_page: $quoted quotations, $edits edits, $(wc -w <<< "$calls") calls"
+diff <(sed -n '/^pub data Call /,/^$/s/^  \([A-Za-z]*\) : .*/\1/p' crates/meter/specs/Calls.antt | sort) \
+    <(sed -n 's/^call_of .* = \([A-Za-z]*\).*/\1/p' crates/host_calls/specs/Calls.antt | sort) || fail "the calls are others"
+echo "demand3_page: $quoted quotations, $edits edits, $exports contracts, $(wc -w <<< "$calls") calls"
