@@ -13,7 +13,6 @@ use Rattle.figures.specs.declared.tally.Counted.{Counted}
 use Rattle.figures.specs.Tally.{accounted_number, accounted_tally, accounted_whole}
 use Rattle.std.specs.Prelude.{true, false, cond, ℕ, eqb, ℤ, pos, Result, Ok, Err}
 use Rattle.std.specs.Result.{result_unwrap_or}
-use Rattle.codes.specs.declared.Codes.{Codes}
 use Rattle.codes.specs.declared.Frame.{Frame}
 use Rattle.state.specs.declared.Pw.{Pw}
 use Rattle.ranging.specs.declared.apply.Keep.{Keep}

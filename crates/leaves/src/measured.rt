@@ -72,17 +72,13 @@ pub extern "C" fn leaf_apply(pw: Pw, keep: u8, now: u64) -> MeasuredPw
 {
     let kept = keep_of(keep);
     let applied = ranging::apply::apply(kept, pw.mode, pw.ranges.vr, pw.cycle, pw.comparator, now);
-    let cycle = applied.cycle;
-    let comparator = applied.comparator;
-    let mut after = pw;
-    after.cycle = cycle;
-    after.comparator = comparator;
     MeasuredPw {
-        pw: after,
-        mark: Stamp {
-            set: true,
-            at: applied.deadline,
+        pw: Pw {
+            cycle: applied.cycle,
+            comparator: applied.comparator,
+            ..pw
         },
+        mark: Stamp::at_time(applied.deadline),
         to_values: false,
     }
 }

@@ -2,7 +2,8 @@
 use Rattle.std.specs.Prelude.{◌≡◌, ℕ, cond, List, [], ◌∷◌, ◌++◌, ◌==◌, nat_lt, length, Option, Some, None}
 use Rattle.pwline.specs.declared.session.Reply.{Reply}
 use Rattle.pwline.specs.declared.session.Session.{Session}
-use Rattle.pwline.specs.Obeyed.{obeyed, next_number, plain_meter, answer_of}
+use Rattle.meter.specs.Making.{plain_meter}
+use Rattle.pwline.specs.Obeyed.{obeyed, next_number, answer_of}
 use Rattle.pwline.specs.declared.text.Answer.{Answer}
 use Rattle.pwline.specs.Text.{due_text}
 

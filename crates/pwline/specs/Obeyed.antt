@@ -2,25 +2,18 @@
 use Rattle.std.specs.Prelude.{ℕ, ◌+◌, ◌%◌, ◌^◌, List, Option, Some, None, Result, Ok, Err}
 use Rattle.refusals.specs.declared.Refusal.{Refusal}
 use Rattle.refusals.specs.Number.{refusal_number}
-use Rattle.tables.specs.Calibration.{no_calibration}
 use Rattle.state.specs.declared.Pw.{Pw}
-use Rattle.state.specs.Fresh.{new_pw}
 use Rattle.steps.specs.declared.place.Kind.TheVariants as job
 use Rattle.orders.specs.declared.answer.Answer.{Answer as Told}
 use Rattle.orders.specs.declared.answer.Step.{Step}
 use Rattle.orders.specs.Switches.{on}
 use Rattle.orders.specs.Starts.{start_job}
-use Rattle.meter.specs.Making.{plain_description}
 use Rattle.meter.specs.Frame.{poll}
 use Rattle.lines.specs.declared.Line.{Line}
 use Rattle.lines.specs.declared.Line.TheVariants.{On, Zero, Poll}
 use Rattle.lines.specs.Spelling.{line_of}
 use Rattle.pwline.specs.declared.session.Reply.{Reply}
 use Rattle.pwline.specs.declared.text.Answer.{Answer}
-
--- "six description numbers of 1.0, `a_auto` no and the valid mark off"
-abbrev pub plain_meter : Pw
-plain_meter = new_pw plain_description no_calibration
 
 -- "0, done", or the number of the refusal
 abbrev pub answer_number : Result Told Refusal → ℕ

@@ -1,7 +1,8 @@
 -- The whole of `pwline`: what it writes for an input, with nothing of how the input is read. proofs/Stated.antt shows that feeding the bytes one by one writes just this.
 use Rattle.std.specs.Prelude.{ℕ, cond, Some, List, [], ◌∷◌, ◌++◌, length, ◌==◌}
 use Rattle.state.specs.declared.Pw.{Pw}
-use Rattle.pwline.specs.Obeyed.{obeyed, next_number, plain_meter, answer_of}
+use Rattle.meter.specs.Making.{plain_meter}
+use Rattle.pwline.specs.Obeyed.{obeyed, next_number, answer_of}
 use Rattle.pwline.specs.Text.{due_text}
 
 -- the lines of an input, `line` having been read of the first: a line feed ends each; "A last line without a line feed counts as a line"

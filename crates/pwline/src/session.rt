@@ -7,6 +7,7 @@ use crate::text::Answer;
 use arrayvec::ArrayVec;
 use lines::{Line, parse};
 use meter::frame::poll;
+use meter::making::plain_meter;
 use orders::answer::Step;
 use orders::starts::zero_job;
 use orders::switches::on;
@@ -68,7 +69,7 @@ impl Session {
         ensures { result ≡ started }
     {
         Session {
-            pw: Pw::new(Description::PLAIN, Calibration::NONE),
+            pw: plain_meter(),
             number: 1,
             kept: ArrayVec::new(),
         }

@@ -276,7 +276,7 @@ fn totals_rows() -> [Row; 6] {
 
 // Whether a meter just made takes this RMS code with this R34.
 fn takes_rms(stat: u8, rms: i64) -> bool {
-    let pw = Pw::new(Description::PLAIN, Calibration::NONE);
+    let pw = meter::making::plain_meter();
     let with = paths::whole::instrument_in(pw);
     let before = Measured {
         parts: pw.parts,
@@ -428,7 +428,7 @@ fn signal_rows() -> [Row; 8] {
 
 // `pwline`'s meter, on where asked for.
 fn plain(on: bool) -> Pw {
-    let new = Pw::new(Description::PLAIN, Calibration::NONE);
+    let new = meter::making::plain_meter();
     if on {
         orders::switches::on(new, 0).pw
     } else {
