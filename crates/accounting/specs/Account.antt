@@ -1,5 +1,5 @@
 -- `pw_account` of the source. Document 01: "an accounted frame then counts zero elapsed and its time becomes the last (none while stopped)", of a job, "The next accounted frame after it counts the whole gap at the last power"; refusal 6, full, is the accounting step's.
-use Rattle.std.specs.Prelude.{Bool, not, ◌&&◌, cond, ℕ, Float, pos, Result, Ok, Err}
+use Rattle.std.specs.Prelude.{Bool, not, ◌&&◌, if◌then◌else◌, ℕ, Float, pos, Result, Ok, Err}
 use Rattle.std.specs.Float.{binary32}
 use Rattle.std.specs.Float.Ieee.{lt, of_bits}
 use Rattle.numbers.specs.Binary32.{zero_f, is_finite, ◌*f◌}
@@ -19,17 +19,16 @@ use Rattle.values.specs.Methods.{alternating}
 -- `if run { if let Some(t) = t_last { .. } }`: the interval from the last accounted frame, at `p_tot` and `s_last`; the active energy counts where `!alt || dc`
 unfoldable pub counted : Pw → ℕ → Result Counted Refusal
 counted m now =
-    cond (m.clock.run && m.clock.t_last.set)
-    (accounting_step m.tally (elapsed now m.clock.t_last.at) m.powers.p_tot m.powers.s_last (not (alternating m.mode)))
-    (Ok (record { tally = m.tally; gained = pos 0 }))
+    if m.clock.run && m.clock.t_last.set then accounting_step m.tally (elapsed now m.clock.t_last.at) m.powers.p_tot m.powers.s_last (not (alternating m.mode))
+    else Ok (record { tally = m.tally; gained = pos 0 })
 
 -- `t_last = Some(now)`, and `None` while stopped
 unfoldable pub last_time : Bool → ℕ → Stamp
-last_time run now = cond run (at_time now) no_time
+last_time run now = if run then at_time now else no_time
 
 -- `if x.is_finite() { x } else { 0.0 }`
 unfoldable pub finite_or_zero : Float → Float
-finite_or_zero x = cond (is_finite x) x zero_f
+finite_or_zero x = if is_finite x then x else zero_f
 
 unfoldable pub powers_of : Figures → Powers
 powers_of load = record { p_tot = finite_or_zero load.p; s_last = finite_or_zero load.s }
@@ -40,8 +39,9 @@ ninety_five = of_bits binary32 0x3f73_3333  -- 0.95
 -- `if i > i_cont { if over_t0.is_none() { over_t0 = Some(now) } } else if i < 0.95 * i_cont { over_t0 = None }`
 unfoldable pub over_since : Stamp → Float → Float → ℕ → Stamp
 over_since since i iCont now =
-    cond (lt iCont i) (cond since.set since (at_time now))
-    (cond (lt i (ninety_five *f iCont)) no_time since)
+    if lt iCont i then (if since.set then since else at_time now)
+    else if lt i (ninety_five *f iCont) then no_time
+    else since
 
 -- what is left where the interval is counted. All else stays: description and words, mode but for `cal_req`, ranges, barred, cycle, parts, run and the last frame's time, settings, corrections, job, comparator and ring
 abbrev pub accounted_to : Pw → Tally → Figures → ℕ → Pw

@@ -1,5 +1,5 @@
 -- The accounting as the code divides it: on a ledger, the record of what it changes. The contract of `posted` speaks of it; a reader of the frame call need not believe it: proofs/Posting.antt says that it is `account` of specs/Account.antt.
-use Rattle.std.specs.Prelude.{Bool, ◌&&◌, cond, ℕ, Float, pos, Result, Ok, Err}
+use Rattle.std.specs.Prelude.{Bool, ◌&&◌, if◌then◌else◌, ℕ, Float, pos, Result, Ok, Err}
 use Rattle.refusals.specs.declared.Refusal.{Refusal}
 use Rattle.figures.specs.declared.load.Figures.{Figures}
 use Rattle.figures.specs.declared.tally.Tally.{Tally}
@@ -8,15 +8,19 @@ use Rattle.figures.specs.Tally.{accounting_step}
 use Rattle.state.specs.declared.Pw.{Pw}
 use Rattle.state.specs.Counting.{elapsed}
 use Rattle.phase.specs.Phase.{cal_accounted}
+use Rattle.values.specs.declared.vals.Changing.{Changing}
 use Rattle.accounting.specs.declared.Ledger.{Ledger}
 use Rattle.accounting.specs.Account.{last_time, powers_of, over_since}
 
 -- `counted` of the ledger: `active` is whether the active energy counts
 unfoldable pub counted_of : Ledger → Bool → ℕ → Result Counted Refusal
 counted_of b active now =
-    cond (b.clock.run && b.clock.t_last.set)
-    (accounting_step b.tally (elapsed now b.clock.t_last.at) b.powers.p_tot b.powers.s_last active)
-    (Ok (record { tally = b.tally; gained = pos 0 }))
+    if b.clock.run && b.clock.t_last.set then accounting_step b.tally (elapsed now b.clock.t_last.at) b.powers.p_tot b.powers.s_last active
+    else Ok (record { tally = b.tally; gained = pos 0 })
+
+-- what the values take of the ledger
+unfoldable pub changing : Ledger → Changing
+changing b = record { tally = b.tally; clock = b.clock; over_t0 = b.over_t0; phase_cal = b.phase_cal }
 
 -- what the accounting changes of a meter, and a meter with that changed
 abbrev pub ledger_in : Pw → Ledger
@@ -32,24 +36,13 @@ ledger_in m =
 
 abbrev pub with_ledger : Pw → Ledger → Pw
 with_ledger m b =
-    record {
-      description = m.description;
-      calibration = m.calibration;
+    record m {
       mode = record { on = m.mode.on; alt = m.mode.alt; coup = m.mode.coup; dc = m.mode.dc; cal_req = b.cal_req };
-      ranges = m.ranges;
-      barred = m.barred;
-      cycle = m.cycle;
-      parts = m.parts;
       powers = b.powers;
       tally = b.tally;
       clock = b.clock;
       over_t0 = b.over_t0;
-      settings = m.settings;
       phase_cal = b.phase_cal;
-      corrections = m.corrections;
-      job = m.job;
-      comparator = m.comparator;
-      ring = m.ring;
     }
 
 -- the ledger after the accounting

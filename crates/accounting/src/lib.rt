@@ -11,6 +11,7 @@ use figures::tally::{Counted, Tally, accounting_step};
 use phase::cal_account;
 use refusals::Refusal;
 use state::{Clock, PhaseCal, Powers, Stamp, elapsed};
+use values::vals::Changing;
 
 /// What the accounting changes.
 #[derive(Clone, Copy)]
@@ -23,22 +24,41 @@ pub struct Ledger {
     pub cal_req: bool,
 }
 
+/// What the values take of the ledger. (Of a whole meter `values` takes the same four: two structs, so two conversions.)
+impl From<Ledger> for Changing {
+    ghost use Rattle.accounting.specs.Divided.{changing};
+
+    ghost from_gives = { λ ledger taken. taken ≡ changing ledger };
+
+    #[tactic(auto, unfolding(crate::specs::Divided::changing))]
+    fn from(ledger: Ledger) -> Changing {
+        Changing {
+            tally: ledger.tally,
+            clock: ledger.clock,
+            over_t0: ledger.over_t0,
+            phase_cal: ledger.phase_cal,
+        }
+    }
+}
+
 // The tally after the interval from the last accounted frame. While stopped, and where there was no such
-// frame, nothing is counted.
+// frame, nothing is counted. `active`, here and in `posted`, is whether the active energy counts: a yes or no, as
+// `accounting_step` takes it, and handed in, since it hangs on the mode, of which a ledger has `cal_req` alone.
 #[tactic(auto, unfolding(crate::specs::Divided::counted_of))]
 fn counted(before: Ledger, active: bool, time: u64) -> Result<Counted, Refusal>
     ensures { result ≡ counted_of before active time }
 {
-    let t_last = before.clock.t_last;
-    let powers = before.powers;
-    if before.clock.run && t_last.set {
-        let dt = elapsed(time, t_last.at);
-        return accounting_step(before.tally, dt, powers.p_tot, powers.s_last, active);
+    match Option::<u64>::from(before.clock.t_last) {
+        Some(t_last) if before.clock.run => {
+            let dt = elapsed(time, t_last);
+            let Powers { p_tot, s_last } = before.powers;
+            accounting_step(before.tally, dt, p_tot, s_last, active)
+        }
+        _ => Ok(Counted {
+            tally: before.tally,
+            gained: 0,
+        }),
     }
-    Ok(Counted {
-        tally: before.tally,
-        gained: 0,
-    })
 }
 
 // The last accounted frame's time: this one's, and none while stopped.
@@ -78,11 +98,7 @@ fn over_since(before: Stamp, i: f32, i_cont: f32, time: u64) -> Stamp
     ensures { result ≡ over_since before i i_cont time }
 {
     if i > i_cont {
-        if before.set {
-            before
-        } else {
-            Stamp::at_time(time)
-        }
+        Stamp::at_time(Option::<u64>::from(before).unwrap_or(time))
     } else if i < 0.95 * i_cont {
         Stamp::NONE
     } else {

@@ -206,4 +206,5 @@ module _ (w : Calibration) (m : Pw) (b : Book) (h : Keeps w m b) where
 
 -- after every list of calls from a meter just made
 pub demand3 : Demand3
+unfolding Demand3
 demand3 d words valid m e cs = agrees (fed words valid) (after m cs) (books (fed words valid) m cs blank) (reached d words valid m e cs)

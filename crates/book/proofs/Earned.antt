@@ -7,7 +7,7 @@ use Rattle.state.specs.declared.Pw.{Pw}
 use Rattle.meter.specs.Calls.{step, after, Call}
 use Rattle.book.specs.Book.{Book, asked, entry, books, blank}
 use Rattle.book.specs.Earned.{EarnsZeros, EarnsGain, Sometime, Earned}
-use Rattle.book.specs.Last.{LastOf}
+use Rattle.book.specs.Last.{LastOf, Last}
 use Rattle.book.proofs.Last.{every_last}
 
 module _ (w : Calibration) (P : Pw → Book → Call → Type 0) where
@@ -21,6 +21,7 @@ module _ (w : Calibration) (P : Pw → Book → Call → Type 0) where
   or_last m b cs (inr l) = inr (subst (Sometime w P m b) (sym l.is) (there l.before l.last l.later m b l.earns))
 
 pub all_earned : Earned
+unfolding Earned Last
 all_earned w m cs =
     let l = every_last w m cs in
     let b = books w m cs blank in

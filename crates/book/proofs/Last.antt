@@ -164,6 +164,7 @@ module _ (w : Calibration) (X : Type 0) (part : Book → X) (Earns : X → Pw �
       go (inr p) (inl q) = inr (record { before = []; last = c; later = cs; is = refl; earns = subst (λ (y : X). Earns y m b c) (sym q.0) p; none_later = q.1 })
 
 pub every_last : Last
+unfolding Last
 every_last w m cs = (
   last_in w Zeros (λ b. b.zeros) (EarnsZeros w) (AnyZeros w) (zeros_step w) cs m blank,
   λ i. last_in w RangeGain (λ b. b.gain i) (EarnsGain w i) (AnyGain w i) (λ m b c. gain_step w m b i c) cs m blank,

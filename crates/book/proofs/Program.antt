@@ -17,7 +17,8 @@ use Rattle.meter.proofs.Stated.{six_in_bounds, makes}
 use Rattle.host.specs.declared.stepped.HostStep.{HostStep}
 use Rattle.host.specs.Stepped.{host_step, host_made}
 use Rattle.book.specs.Book.{books, blank}
-use Rattle.book.specs.Demand3.{Agrees, fed}
+use Rattle.book.specs.Demand3.{Agrees, fed, Demand3}
+use Rattle.book.specs.Earned.{Earned}
 use Rattle.book.specs.Program.{Contracts, ran, Program}
 use Rattle.book.proofs.Demand3.{demand3}
 use Rattle.book.proofs.Earned.{all_earned}
@@ -39,6 +40,7 @@ hands_out d words valid = rw (makes d words valid) (go (six_in_bounds d) (eqb (l
     go false enough e = absurd (omega (arith, e))
 
 pub program : Program
+unfolding Program Demand3 Earned
 program f h d words valid e cs =
     let m = (host_made (make d words valid)).meter in
     let same = ran_is f h m cs in

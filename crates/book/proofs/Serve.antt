@@ -10,11 +10,11 @@ use lib.IntN.{ℤ, pos}
 use lib.Ieee.{Float}
 use lib.ListN.{length, get_or, set, length-set}
 use lib.Seq.{get_or-set_same, get_or-set_other}
+use Rattle.std.specs.Prelude.{None}
 use Rattle.codes.specs.declared.Codes.{Codes}
 use Rattle.tables.specs.Constants.{jr_run, jr_ok}
 use Rattle.tables.specs.declared.calibration.Calibration.{Calibration}
 use Rattle.state.specs.declared.Ranges.{Ranges}
-use Rattle.state.specs.Fresh.{no_time}
 use Rattle.steps.specs.declared.place.Kind.{Kind}
 use Rattle.steps.specs.declared.place.Kind.TheVariants.{Zero, Gain}
 use Rattle.steps.specs.Place.{zero_steps, kind_number, layout_of, place_of, drops_of, stat_of, step_ranges}
@@ -242,7 +242,7 @@ module _ (w : Calibration) (b : Book) (t : Bench) (r : Ranges) (fs : List Codes)
   zero_done_keeps = go (ltb s 6) (ltb-true s 6) (ltb-false s 6) (ltb s 12) (ltb-true s 12) (ltb-false s 12)
     where
       go : (u : Bool) → (u ≡ true → s < 6) → (u ≡ false → 6 ≤ s) → (v : Bool) → (v ≡ true → s < 12) → (v ≡ false → 12 ≤ s)
-          → Good w b Zero r fs (cond u (next now (zx_noted z t)) (cond v (next now (zd_noted z t)) (record { bench = ended jr_ok (zeros_stored z t); mark = no_time }))).bench (cond v going (zeroed (thirteen c fs)))
+          → Good w b Zero r fs (cond u (next now (zx_noted z t)) (cond v (next now (zd_noted z t)) (record { bench = ended jr_ok (zeros_stored z t); mark = None }))).bench (cond v going (zeroed (thirteen c fs)))
       go true p q true x y = noted_zx (p refl)
       go true p q false x y = absurd (omega (arith, p refl, y refl))
       go false p q true x y = noted_zd (q refl) (x refl)

@@ -1,6 +1,6 @@
 -- The book of document 01: "It holds the zeros, a gain for each range and a running job, at first none of these." A running job is its kind, the ranges and automatic marks found, and the ready frames that it has used. Which step a frame serves, what is dropped, readings, means, ratios and outcomes are worked out from that list.
 -- The formulas of one reading, one mean and one verdict, the old zero of a step and the order of steps that a kind has are the source's as crates/steps renders them, and what a frame's bytes say is crates/codes's; which orders start a job or end it is crates/meter's (`about`). The steps themselves, the drops, the list, and what a start, an end and a frame do to a job are written out here.
-use Rattle.std.specs.Prelude.{Bool, cond, List, [], ◌∷◌, ◌++◌, ℕ, zero, suc, ◌+◌, ◌%◌, min, ltb, leb, eqb, ℤ, pos, get_or, length, Float, Result, Ok, Err, is_err}
+use Rattle.std.specs.Prelude.{Bool, if◌then◌else◌, List, [], ◌∷◌, ◌++◌, ℕ, zero, suc, ◌+◌, ◌%◌, min, ltb, leb, eqb, ℤ, pos, get_or, length, Float, Result, Ok, Err, is_err}
 use Rattle.numbers.specs.Binary32.{◌+f◌, zero_f}
 use Rattle.codes.specs.declared.Codes.{Codes}
 use Rattle.codes.specs.Frame.{codes_of}
@@ -57,7 +57,7 @@ last_of ac_steps = 3
 -- the step that frame number i serves, of the steps up to n: the last that begins at or before it
 abbrev pub step_up_to : Layout → ℕ → ℕ → ℕ
 step_up_to l i zero = 0
-step_up_to l i (suc n) = cond (leb (begins l (suc n)) i) (suc n) (step_up_to l i n)
+step_up_to l i (suc n) = if leb (begins l (suc n)) i then suc n else step_up_to l i n
 
 abbrev pub step_of : Layout → ℕ → ℕ
 step_of l i = step_up_to l i (last_of l)
@@ -148,10 +148,11 @@ ratio_of c dc fs = gain_verdict (raw_at c dc fs 0) (ref_at c dc fs 1) (raw_at c 
 
 -- the list ends with step s's third reading
 unfoldable pub finished : Kind → Setting → List Codes → ℕ → Outcome
-finished Zero c fs s = cond (ltb s 12) going (zeroed (thirteen c fs))
+finished Zero c fs s = if ltb s 12 then going else zeroed (thirteen c fs)
 finished Gain c fs s =
-    cond (eqb (s % 2) 0) (raw_out (verdict_of c (dc_of c fs) fs s))
-    (cond (ltb s 3) going (gain_out (ratio_of c (dc_of c fs) fs)))
+    if eqb (s % 2) 0 then raw_out (verdict_of c (dc_of c fs) fs s)
+    else if ltb s 3 then going
+    else gain_out (ratio_of c (dc_of c fs) fs)
 
 -- "further from the old zero (0 while none is stored)": the book's zeros are the old ones
 abbrev pub signal_at : Setting → Layout → ℕ → Codes → Bool
@@ -160,9 +161,10 @@ signal_at c l s f = signal (measures l s) (old_of c.zeros s) f
 -- a ready frame f after the frames fs, at step s: one of those dropped; or a signal where none may be; or not yet the step's third; or its third
 abbrev pub outcome_by : Kind → Setting → List Codes → Codes → Layout → ℕ → Outcome
 outcome_by k c fs f l s =
-    cond (ltb (length fs) (first l s)) going
-    (cond (signal_at c l s f) (struck jr_signal)
-    (cond (ltb (suc (length fs)) (begins l (suc s))) going (finished k c (fs ++ (f ∷ [])) s)))
+    if ltb (length fs) (first l s) then going
+    else if signal_at c l s f then struck jr_signal
+    else if ltb (suc (length fs)) (begins l (suc s)) then going
+    else finished k c (fs ++ (f ∷ [])) s
 
 unfoldable pub outcome : Kind → Setting → List Codes → Codes → Outcome
 outcome k c fs f = outcome_by k c fs f (layout_in c k fs) (step_in c k fs)
@@ -195,7 +197,7 @@ abbrev pub entered : Kind → Ranges → List Codes → Outcome → Zeros → (�
 entered k r fs going z g = book z g (serving k r fs)
 entered k r fs (struck res) z g = book z g idle
 entered k r fs (zeroed y) z g = book y g idle
-entered k r fs (gained x) z g = book z (λ i. cond (eqb i (min r.vr 3)) (earned x) (g i)) idle
+entered k r fs (gained x) z g = book z (λ i. if eqb i (min r.vr 3) then earned x else g i) idle
 
 abbrev pub setting_of : Calibration → Ranges → Zeros → Setting
 setting_of w r z = record { calibration = w; vr = r.vr; zeros = z }
@@ -204,9 +206,8 @@ setting_of w r z = record { calibration = w; vr = r.vr; zeros = z }
 abbrev pub framed : Calibration → ℕ → Codes → Zeros → (ℕ → RangeGain) → Running → Book
 framed w flags f z g idle = book z g idle
 framed w flags f z g (serving k r fs) =
-    cond (ready (place_for (setting_of w r z) k fs) flags)
-    (entered k r (fs ++ (f ∷ [])) (outcome k (setting_of w r z) fs f) z g)
-    (book z g (serving k r fs))
+    if ready (place_for (setting_of w r z) k fs) flags then entered k r (fs ++ (f ∷ [])) (outcome k (setting_of w r z) fs f) z g
+    else book z g (serving k r fs)
 
 -- "An accepted job start notes the job, and the ranges and automatic marks found"
 abbrev pub started : Kind → Ranges → Book → Book
@@ -225,7 +226,7 @@ noted w found _ b = b
 -- an accepted call
 abbrev pub note : Calibration → Ranges → Call → Book → Book
 -- one "by which these rules or the source end the job" strikes it; a frame's own outcome ends a job in `framed`
-note w found c b = cond (about c).ends_job (strikes b) (noted w found (about c).named b)
+note w found c b = if (about c).ends_job then strikes b else noted w found (about c).named b
 
 -- "Whether a call is refused, and what else a rule asks, is what demand 2's definitions give for the calls up to this one": all that the book is told of the meter, whether this call is refused, and the ranges and marks that it finds
 pub record Asked : Type 0 where
@@ -237,7 +238,7 @@ asked m c = record { refused = is_err (step m c).answer; found = m.ranges }
 
 -- "A refused call changes nothing"
 abbrev pub entry : Calibration → Asked → Call → Book → Book
-entry w a c b = cond a.refused b (note w a.found c b)
+entry w a c b = if a.refused then b else note w a.found c b
 
 -- the book after the list; m is the definitions' meter, from which each call's questions are answered
 abbrev pub books : Calibration → Pw → List Call → Book → Book

@@ -1,5 +1,5 @@
 -- Demand 3, stated: of a meter just made and every list of calls, refused ones and smaller clock readings included.
-use Rattle.std.specs.Prelude.{◌≡◌, Bool, true, false, cond, List, [], ◌∷◌, ◌++◌, ℕ, suc, ◌<◌, ◌≤◌, Float, pos, get_or, length, replicate, Ok, IsOk}
+use Rattle.std.specs.Prelude.{◌≡◌, Bool, true, false, if◌then◌else◌, List, [], ◌∷◌, ◌++◌, ℕ, suc, ◌<◌, ◌≤◌, Float, pos, get_or, length, replicate, Ok, IsOk}
 use Rattle.std.specs.Float.{nan}
 use Rattle.numbers.specs.Binary32.{zero_f}
 use Rattle.codes.specs.declared.Codes.{Codes}
@@ -97,7 +97,7 @@ pub record Agrees (w : Calibration) (m : Pw) (b : Book) : Type 0 where
   -- its answer "reports how many ready frames the job has used, dropped ones included, the ending frame too"
   pub count : (t flags : ℕ) (bytes : List ℕ) (k : Kind) (r : Ranges) (fs : List Codes) → b.job ≡ serving k r fs
       → let s = step m (Frame t flags bytes) in IsOk s.answer
-      → used_told s.answer ≡ cond (ready (place_for (setting_of w r b.zeros) k fs) flags) (suc (length fs)) (length fs)
+      → used_told s.answer ≡ (if ready (place_for (setting_of w r b.zeros) k fs) flags then suc (length fs) else length fs)
   -- and where it is ready its result is that of the book's outcome
   pub result : (t flags : ℕ) (bytes : List ℕ) (k : Kind) (r : Ranges) (fs : List Codes) → b.job ≡ serving k r fs
       → let s = step m (Frame t flags bytes) in IsOk s.answer → ready (place_for (setting_of w r b.zeros) k fs) flags ≡ true
@@ -113,14 +113,14 @@ pub record Agrees (w : Calibration) (m : Pw) (b : Book) : Type 0 where
   pub zero_length : (f : Codes) (r : Ranges) (fs : List Codes) → b.job ≡ serving Zero r fs
       → (z : Zeros) → outcome Zero (setting_of w r b.zeros) fs f ≡ zeroed z → suc (length fs) ≡ 52
   pub gain_length : (f : Codes) (r : Ranges) (fs : List Codes) → b.job ≡ serving Gain r fs
-      → (g : Float) → outcome Gain (setting_of w r b.zeros) fs f ≡ gained g → suc (length fs) ≡ cond (dc_of (setting_of w r b.zeros) (fs ++ (f ∷ []))) 16 22
+      → (g : Float) → outcome Gain (setting_of w r b.zeros) fs f ≡ gained g → suc (length fs) ≡ (if dc_of (setting_of w r b.zeros) (fs ++ (f ∷ [])) then 16 else 22)
 
 -- the words and the valid mark that the book is fed
 abbrev pub fed : List ℕ → Bool → Calibration
 fed words valid = record { words = words; valid = valid }
 
 -- for every description and words that make a meter, and every list of calls
-abbrev pub Demand3 : Type 0
+unfoldable pub Demand3 : Type 0
 Demand3 =
     (d : Description) (words : List ℕ) (valid : Bool) → (m : Pw) → make d words valid ≡ Ok m → (cs : List Call)
     → Agrees (fed words valid) (after m cs) (books (fed words valid) m cs blank)

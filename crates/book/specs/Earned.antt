@@ -42,5 +42,5 @@ abbrev pub EarnedIn : Calibration → Pw → List Call → Book → Type 0
 EarnedIn w m cs b =
     ((b.zeros ≡ none) ⊎ Sometime w (EarnsZeros w b.zeros) m blank cs) × ((i : ℕ) → (b.gain i ≡ factory) ⊎ Sometime w (EarnsGain w i (b.gain i)) m blank cs)
 
-abbrev pub Earned : Type 0
+unfoldable pub Earned : Type 0
 Earned = (w : Calibration) (m : Pw) (cs : List Call) → EarnedIn w m cs (books w m cs blank)

@@ -29,5 +29,5 @@ LastIn w m cs b =
     (((b.zeros ≡ none) × (Sometime w (AnyZeros w) m blank cs → ⊥)) ⊎ LastOf w (EarnsZeros w b.zeros) (AnyZeros w) m blank cs)
     × ((i : ℕ) → ((b.gain i ≡ factory) × (Sometime w (AnyGain w i) m blank cs → ⊥)) ⊎ LastOf w (EarnsGain w i (b.gain i)) (AnyGain w i) m blank cs)
 
-abbrev pub Last : Type 0
+unfoldable pub Last : Type 0
 Last = (w : Calibration) (m : Pw) (cs : List Call) → LastIn w m cs (books w m cs blank)

@@ -20,7 +20,7 @@ ran f m [] = m
 ran f m (c ∷ cs) = ran f (f m c).meter cs
 
 -- for every meter that `pw_make` hands out and every list of calls: it is the definitions', the next call answers as theirs does, it agrees with the book, and what the book holds was earned in the list
-abbrev pub Program : Type 0
+unfoldable pub Program : Type 0
 Program =
     (f : Pw → Call → HostStep) → Contracts f → (d : Description) (words : List ℕ) (valid : Bool) → let made = host_made (make d words valid) in made.refusal ≡ 0
     → (cs : List Call) → let m = made.meter in (ran f m cs ≡ after m cs) × ((c : Call) → f (ran f m cs) c ≡ host_step (step (after m cs) c)) × Agrees (fed words valid) (ran f m cs) (books (fed words valid) m cs blank) × EarnedIn (fed words valid) m cs (books (fed words valid) m cs blank)

@@ -5,6 +5,7 @@ ghost use Rattle.book.specs.Last.{Last};
 ghost use Rattle.book.specs.Program.{Program};
 
 /// Demand 3: a meter just made agrees with the book after every list of calls.
+#[tactic(auto, using(crate::proofs::Demand3::demand3))]
 pub fn demand3()
     ensures { Demand3 }
 {}
@@ -22,6 +23,7 @@ pub fn last()
 {}
 
 /// Demand 3, and that all was earned, of a meter that a host keeps by functions with the contracts of the C interface.
+#[tactic(auto, using(crate::proofs::Program::program))]
 pub fn program()
     ensures { Program }
 {}

@@ -9,7 +9,7 @@ use lib.Dec.{ltb}
 use lib.IntN.{ℤ, pos, negsuc, sub_ℕ, ◌-ℤ◌}
 use lib.Pow.{pow_pos, pow_mono}
 use lib.Signed.{mag}
-use mir.Syntax.{Width, w64}
+use mir.Syntax.{Width, w32, w64}
 use mir.Val.{SFits, to_z, of_z, hbits}
 use mir.ValLaws.{to_z_pos, to_z-of_z}
 use Rattle.numbers.proofs.Shift.{Shifted, shift_is}
@@ -117,3 +117,17 @@ module _ (w raw : ℕ) (W : 0 < w) where
   -- so it fits a machine's integer of as many bits
   pub narrow_fits : (v : Width) → w - 1 ≤ hbits v → SFits v (twos_complement w raw)
   narrow_fits v h = record { sfits = lt_of_lt_of_le in_range (pow_mono h) }
+
+-- so a code of 32 bits or fewer is an i32, and stays what it was
+module _ (w raw : ℕ) (y : ℤ) (F : SFits w64 y) (e : y ≡ twos_complement w raw) (W : 0 < w) (H : w ≤ 32) where
+  fits_i32 : SFits w32 y
+  fits_i32 = subst (λ (v : ℤ). SFits w32 v) (sym e) (narrow_fits w raw W w32 (go w H))
+    where
+      go : (n : ℕ) → n ≤ 32 → n - 1 ≤ 31
+      go n h = omega arith
+
+  pub narrowed_fits : SFits w32 (to_z w64 (of_z w64 y))
+  narrowed_fits = subst (λ (v : ℤ). SFits w32 v) (sym (to_z-of_z w64 y F)) fits_i32
+
+  pub narrowed_is : to_z w32 (of_z w32 (to_z w64 (of_z w64 y))) ≡ y
+  narrowed_is = ap (λ (v : ℤ). to_z w32 (of_z w32 v)) (to_z-of_z w64 y F) ∙ to_z-of_z w32 y fits_i32

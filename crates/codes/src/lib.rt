@@ -26,7 +26,7 @@ pub struct Codes {
 }
 
 /// A frame: the flags of `R_INTF`, the codes, and its time in ms.
-#[derive(Clone, Copy)]
+#[derive(Clone, Copy, Debug, PartialEq, Eq)]
 pub struct Frame {
     pub flags: u8,
     pub codes: Codes,
@@ -34,6 +34,7 @@ pub struct Frame {
 }
 
 // The low w bits of raw, as two's complement.
+#[tactic(auto, using(crate::proofs::Twos::plain, crate::proofs::Twos::less))]
 fn twos_complement(raw: u64, w: u32) -> i64
     requires { (0 < w) × (w ≤ 62) }
     ensures { result ≡ twos_complement w raw }
@@ -49,6 +50,7 @@ fn twos_complement(raw: u64, w: u32) -> i64
 
 /// The codes of a lent frame, or refusal 4 for every length but 14. It reads bytes 0..2, 6..8 and
 /// 9..13, and of a frame of another length none.
+#[tactic(auto, using(crate::proofs::Twos::narrowed_fits, crate::proofs::Twos::narrowed_is), unfolding(crate::specs::Frame::decoded, crate::specs::Frame::little_endian))]
 pub fn decode(frame: &[u8]) -> Result<Codes, Refusal>
     ensures { result ≡ decoded frame.now }
 {
@@ -68,6 +70,7 @@ pub fn decode(frame: &[u8]) -> Result<Codes, Refusal>
 }
 
 /// Whether the flags hold the AD1 bit.
+#[tactic(auto, using(crate::proofs::Bits::ad1_is))]
 pub fn holds_ad1(flags: u8) -> bool
     ensures { result ≡ holds_ad1 flags }
 {
@@ -75,6 +78,7 @@ pub fn holds_ad1(flags: u8) -> bool
 }
 
 /// Whether the flags hold both the RMS and the LPF bit.
+#[tactic(auto, using(crate::proofs::Bits::rms_set, crate::proofs::Bits::rms_clear))]
 pub fn holds_rms_lpf(flags: u8) -> bool
     ensures { result ≡ holds_rms_lpf flags }
 {

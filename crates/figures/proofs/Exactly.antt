@@ -16,8 +16,8 @@ use Rattle.numbers.proofs.Cutting.{inside}
 use Rattle.numbers.proofs.Cases.{either}
 use Rattle.refusals.specs.declared.Refusal.{Refusal}
 use Rattle.refusals.specs.declared.Refusal.TheVariants as refusal
-use Rattle.refusals.specs.Number.{refusal_number}
-use Rattle.figures.specs.Acc.{two63, sum_in_range, count_in_range, acc_step, thousand, add_to, added_number, added_acc}
+use Rattle.refusals.specs.Number.{refusal_number, told_number}
+use Rattle.figures.specs.Acc.{two63, sum_in_range, count_in_range, acc_step, thousand, add_to, add_answer, added_acc}
 use Rattle.figures.specs.Exact.{with_sign, IsWholePlus, Exact, ExactAfter}
 use Rattle.figures.specs.declared.acc.Acc.{Acc}
 use Rattle.figures.specs.declared.acc.Sum.{Sum}
@@ -116,8 +116,8 @@ exactly a j = go (le (neg two63) x) (lt x two63) (count_in_range (a.mj +ℤ w)) 
     go true false t k = tt
     go false u t k = tt
 
-pub with_exact : (a : Acc) (millijoules : Float) (r : Result Sum Refusal) → r ≡ acc_step a millijoules → (r ≡ acc_step a millijoules) × Exact a millijoules r
-with_exact a j r e = (e, subst (λ (z : Result Sum Refusal). Exact a j z) (sym e) (exactly a j))
+pub exact_of : (a : Acc) (millijoules : Float) (r : Result Sum Refusal) → r ≡ acc_step a millijoules → Exact a millijoules r
+exact_of a j r e = subst (λ (z : Result Sum Refusal). Exact a j z) (sym e) (exactly a j)
 
 -- ---- a refusal is full
 abbrev pub OnlyFull : {A : Type 0} → Result A Refusal → Type 0
@@ -128,14 +128,26 @@ pub step_only_full : (a : Acc) (millijoules : Float) → OnlyFull (acc_step a mi
 unfolding acc_step
 step_only_full a j = either OnlyFull (sum_in_range (a.frac +f j) && count_in_range (a.mj +ℤ to_signed 63 (a.frac +f j))) tt refl
 
--- ---- and of every add to a lent record
-after_answer : (a : Acc) (joules : Float) (r : Result Sum Refusal) → OnlyFull r → Exact a (joules *f thousand) r → ExactAfter a joules (added_number r) (added_acc a r)
+-- ---- the number of what the lent add answers is that of the add by value
+pub answer_told : (r : Result Sum Refusal) → told_number (add_answer r) ≡ told_number r
+answer_told (Ok s) = refl
+answer_told (Err r) = refl
+
+-- ---- whole part and fraction are exact after every add to a lent record, too
+after_answer : (a : Acc) (joules : Float) (r : Result Sum Refusal) → OnlyFull r → Exact a (joules *f thousand) r → ExactAfter a joules (told_number r) (added_acc a r)
 unfolding Exact ExactAfter
 after_answer a joules (Ok s) f h = inl (refl, (s.gained, h))
 after_answer a joules (Err r) f h = inr (ap refusal_number f, refl)
 
-pub exactly_after : (a : Acc) (joules : Float) (r : Result Sum Refusal) → r ≡ add_to a joules → ExactAfter a joules (added_number r) (added_acc a r)
+pub exactly_after : (a : Acc) (joules : Float) (r : Result Sum Refusal) → r ≡ add_to a joules → ExactAfter a joules (told_number r) (added_acc a r)
 unfolding add_to
 exactly_after a joules r e =
-    subst (λ (z : Result Sum Refusal). ExactAfter a joules (added_number z) (added_acc a z)) (sym e)
+    subst (λ (z : Result Sum Refusal). ExactAfter a joules (told_number z) (added_acc a z)) (sym e)
     (after_answer a joules (acc_step a (joules *f thousand)) (step_only_full a (joules *f thousand)) (exactly a (joules *f thousand)))
+
+-- by the answer of the add by value, which the lent one hands on
+pub exactly_added : (a : Acc) (joules : Float) (s : Sum) → add_to a joules ≡ Ok s → ExactAfter a joules 0 s.acc
+exactly_added a joules s e = exactly_after a joules (Ok s) (sym e)
+
+pub exactly_refused : (a : Acc) (joules : Float) (answer : Result (Unit {0}) Refusal) (r : Refusal) → answer ≡ Err r → add_to a joules ≡ Err r → ExactAfter a joules (told_number answer) a
+exactly_refused a joules answer r is e = subst (λ (z : Result (Unit {0}) Refusal). ExactAfter a joules (told_number z) a) (sym is) (exactly_after a joules (Err r) (sym e))

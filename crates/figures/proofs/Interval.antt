@@ -8,9 +8,11 @@ use Rattle.std.specs.Prelude.{Result, Ok, Err}
 use Rattle.numbers.specs.Binary32.{◌*f◌}
 use Rattle.refusals.specs.declared.Refusal.{Refusal}
 use Rattle.figures.specs.Acc.{add_to}
-use Rattle.figures.specs.Tally.{milli, seconds, energy_step, with_time, both, accounting_step}
+use Rattle.figures.specs.Tally.{milli, seconds, energy_step, with_time, both, accounting_step, Told}
 use Rattle.figures.specs.declared.acc.Sum.{Sum}
+use Rattle.figures.specs.declared.tally.Counted.{Counted}
 use Rattle.figures.specs.declared.tally.Tally.{Tally}
+use Rattle.figures.proofs.Stated.{told_of}
 
 module _ (t : Tally) (dt : ℕ) (p s : Float) (active : Bool) (ms : Float) (told : ms ≡ of_int binary32 (pos dt)) where
   -- what the code's two adds answer is what the definition's do
@@ -22,14 +24,24 @@ module _ (t : Tally) (dt : ℕ) (p s : Float) (active : Bool) (ms : Float) (told
   unfolding seconds
   apparent_is A a = ap (λ (x : Float). add_to t.va (s *f (x *f milli))) (sym told) ∙ sym a
 
-  pub energy_refused : (E : Result Sum Refusal) (r : Refusal) → E ≡ energy_step active t.e (p *f (ms *f milli)) → E ≡ Err r → Err r ≡ accounting_step t dt p s active
+  energy_refused : (R : Result Counted Refusal) (E : Result Sum Refusal) (r : Refusal) → R ≡ Err r → E ≡ energy_step active t.e (p *f (ms *f milli)) → E ≡ Err r → R ≡ accounting_step t dt p s active
   unfolding accounting_step both
-  energy_refused E r is-e refused = sym (rw (energy_is E is-e ∙ refused))
+  energy_refused R E r is is-e refused = is ∙ sym (rw (energy_is E is-e ∙ refused))
 
-  pub apparent_refused : (E A : Result Sum Refusal) (e : Sum) (r : Refusal) → E ≡ energy_step active t.e (p *f (ms *f milli)) → A ≡ add_to t.va (s *f (ms *f milli)) → E ≡ Ok e → A ≡ Err r → Err r ≡ accounting_step t dt p s active
+  apparent_refused : (R : Result Counted Refusal) (E A : Result Sum Refusal) (e : Sum) (r : Refusal) → R ≡ Err r → E ≡ energy_step active t.e (p *f (ms *f milli)) → A ≡ add_to t.va (s *f (ms *f milli)) → E ≡ Ok e → A ≡ Err r → R ≡ accounting_step t dt p s active
   unfolding accounting_step both
-  apparent_refused E A e r is-e is-a sum refused = sym (rw (energy_is E is-e ∙ sum, apparent_is A is-a ∙ refused))
+  apparent_refused R E A e r is is-e is-a sum refused = is ∙ sym (rw (energy_is E is-e ∙ sum, apparent_is A is-a ∙ refused))
 
-  pub counted : (E A : Result Sum Refusal) (e va : Sum) → E ≡ energy_step active t.e (p *f (ms *f milli)) → A ≡ add_to t.va (s *f (ms *f milli)) → E ≡ Ok e → A ≡ Ok va → with_time e va.acc t.t_int dt ≡ accounting_step t dt p s active
+  counted : (R : Result Counted Refusal) (E A : Result Sum Refusal) (e va : Sum) → R ≡ with_time e va.acc t.t_int dt → E ≡ energy_step active t.e (p *f (ms *f milli)) → A ≡ add_to t.va (s *f (ms *f milli)) → E ≡ Ok e → A ≡ Ok va → R ≡ accounting_step t dt p s active
   unfolding accounting_step both
-  counted E A e va is-e is-a sum-e sum-a = sym (rw (energy_is E is-e ∙ sum-e, apparent_is A is-a ∙ sum-a))
+  counted R E A e va is is-e is-a sum-e sum-a = is ∙ sym (rw (energy_is E is-e ∙ sum-e, apparent_is A is-a ∙ sum-a))
+
+  -- and it tells what the definition does
+  pub energy_told : (R : Result Counted Refusal) (E : Result Sum Refusal) (r : Refusal) → R ≡ Err r → E ≡ energy_step active t.e (p *f (ms *f milli)) → E ≡ Err r → Told t R
+  energy_told R E r is is-e refused = told_of t dt p s active R (energy_refused R E r is is-e refused)
+
+  pub apparent_told : (R : Result Counted Refusal) (E A : Result Sum Refusal) (e : Sum) (r : Refusal) → R ≡ Err r → E ≡ energy_step active t.e (p *f (ms *f milli)) → A ≡ add_to t.va (s *f (ms *f milli)) → E ≡ Ok e → A ≡ Err r → Told t R
+  apparent_told R E A e r is is-e is-a sum refused = told_of t dt p s active R (apparent_refused R E A e r is is-e is-a sum refused)
+
+  pub counted_told : (R : Result Counted Refusal) (E A : Result Sum Refusal) (e va : Sum) → R ≡ with_time e va.acc t.t_int dt → E ≡ energy_step active t.e (p *f (ms *f milli)) → A ≡ add_to t.va (s *f (ms *f milli)) → E ≡ Ok e → A ≡ Ok va → Told t R
+  counted_told R E A e va is is-e is-a sum-e sum-a = told_of t dt p s active R (counted R E A e va is is-e is-a sum-e sum-a)

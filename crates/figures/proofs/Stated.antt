@@ -13,11 +13,11 @@ use Rattle.numbers.specs.Binary32.{◌+f◌, ◌-f◌, ◌*f◌, is_finite}
 use Rattle.numbers.proofs.Cases.{either, either_by}
 use Rattle.refusals.specs.declared.Refusal.{Refusal}
 use Rattle.refusals.specs.declared.Refusal.TheVariants as refusal
-use Rattle.refusals.specs.Number.{refusal_number}
+use Rattle.refusals.specs.Number.{refusal_number, told_number}
 use Rattle.figures.specs.Acc.{sum_in_range, count_in_range, acc_step, thousand, add_to, added_acc, added_whole}
 use Rattle.figures.specs.Exact.{Exact}
 use Rattle.figures.specs.Full.{add_full, interval_full, is_full}
-use Rattle.figures.specs.Tally.{seconds, energy_step, with_time, both, accounting_step, accounted_number, accounted_tally, accounted_whole, Told}
+use Rattle.figures.specs.Tally.{seconds, energy_step, with_time, both, accounting_step, accounted_tally, accounted_whole, Told}
 use Rattle.figures.specs.declared.acc.Acc.{Acc}
 use Rattle.figures.specs.declared.acc.Sum.{Sum}
 use Rattle.figures.specs.declared.tally.Counted.{Counted}
@@ -132,14 +132,14 @@ pub whole_is_gained : (t : Tally) (dt : ℕ) (p s : Float) (active : Bool)
 unfolding accounting_step
 whole_is_gained t dt p s active = both_gain t _ _ dt (energy_gains active t.e (p *f seconds dt))
 
-number_told : (t : Tally) (r : Result Counted Refusal) → OnlyFull r → (accounted_number r ≡ 0) ⊎ ((accounted_number r ≡ 6) × (accounted_tally t r ≡ t))
+number_told : (t : Tally) (r : Result Counted Refusal) → OnlyFull r → (told_number r ≡ 0) ⊎ ((told_number r ≡ 6) × (accounted_tally t r ≡ t))
 number_told t (Ok c) f = inl refl
 number_told t (Err r) f = inr (ap refusal_number f, refl)
 
-pub with_told : (t : Tally) (dt : ℕ) (p s : Float) (active : Bool) (r : Result Counted Refusal) → r ≡ accounting_step t dt p s active → (r ≡ accounting_step t dt p s active) × Told t r
+pub told_of : (t : Tally) (dt : ℕ) (p s : Float) (active : Bool) (r : Result Counted Refusal) → r ≡ accounting_step t dt p s active → Told t r
 unfolding Told
-with_told t dt p s active r h =
-    (h, (number_told t r (subst OnlyFull (sym h) (only_full t dt p s active)), subst (λ (z : Result Counted Refusal). (accounted_tally t z).e.mj ≡ t.e.mj +ℤ accounted_whole z) (sym h) (whole_is_gained t dt p s active)))
+told_of t dt p s active r h =
+    (number_told t r (subst OnlyFull (sym h) (only_full t dt p s active)), subst (λ (z : Result Counted Refusal). (accounted_tally t z).e.mj ≡ t.e.mj +ℤ accounted_whole z) (sym h) (whole_is_gained t dt p s active))
 
 -- ---- the time
 abbrev pub TimeInRange : Result Counted Refusal → Type 0

@@ -1,13 +1,12 @@
 -- The energy accumulator, the source's `Acc`: its step, its add and its watt hours. Refusal 6 is given for "a sum in `Acc::add` that is not finite or outside -2^63 <= sum < 2^63", and for "a millijoule
 -- count .. outside signed 64 bits". Document 01 says the second of the accounting step; it is tested in every add, since the source's `mj += w` overflows in any of them (docs/DECISIONS.md).
-use Rattle.std.specs.Prelude.{Bool, ◌&&◌, cond, ℕ, ◌^◌, ltb, ℤ, pos, negsuc, ◌+ℤ◌, Float, Result, Ok, Err}
+use Rattle.std.specs.Prelude.{Bool, ◌&&◌, if◌then◌else◌, ◌^◌, ltb, ℤ, pos, negsuc, ◌+ℤ◌, Float, Result, Ok, Err}
 use Rattle.std.specs.Float.{binary32, binary64}
 use Rattle.std.specs.Float.Ieee.{add, div, lt, le, neg, of_bits, of_int, to_signed}
 use Rattle.numbers.specs.Binary32.{◌+f◌, ◌-f◌, ◌*f◌, zero_f}
 use Rattle.numbers.specs.Convert.{narrow}
 use Rattle.refusals.specs.declared.Refusal.{Refusal}
 use Rattle.refusals.specs.declared.Refusal.TheVariants as refusal
-use Rattle.refusals.specs.Number.{refusal_number}
 use Rattle.figures.specs.declared.acc.Acc.{Acc}
 use Rattle.figures.specs.declared.acc.Sum.{Sum}
 
@@ -34,7 +33,7 @@ unfoldable pub acc_step : Acc → Float → Result Sum Refusal
 acc_step a millijoules =
     let x = a.frac +f millijoules in
     let w = to_signed 63 x in
-    cond (sum_in_range x && count_in_range (a.mj +ℤ w)) (Ok (record { acc = record { mj = a.mj +ℤ w; frac = x -f of_int binary32 w }; gained = w })) (Err refusal.Full)
+    if sum_in_range x && count_in_range (a.mj +ℤ w) then Ok (record { acc = record { mj = a.mj +ℤ w; frac = x -f of_int binary32 w }; gained = w }) else Err refusal.Full
 
 -- 1000.0
 abbrev pub thousand : Float
@@ -44,11 +43,7 @@ thousand = of_bits binary32 0x447a_0000
 unfoldable pub add_to : Acc → Float → Result Sum Refusal
 add_to a joules = acc_step a (joules *f thousand)
 
--- of each answer to an add to a: document 01's number, the record that stands after it, and the whole millijoules that its count gained
-abbrev pub added_number : Result Sum Refusal → ℕ
-added_number (Ok s) = refusal_number refusal.Done
-added_number (Err r) = refusal_number r
-
+-- of each answer to an add to a: the record that stands after it, and the whole millijoules that its count gained; document 01's number is its `told_number`
 abbrev pub added_acc : Acc → Result Sum Refusal → Acc
 added_acc a (Ok s) = s.acc
 added_acc a (Err r) = a
@@ -61,11 +56,6 @@ added_whole (Err r) = pos 0
 abbrev pub add_answer : Result Sum Refusal → Result (Unit {0}) Refusal
 add_answer (Ok s) = Ok tt
 add_answer (Err r) = Err r
-
--- document 01's number of that
-abbrev pub answer_number : Result (Unit {0}) Refusal → ℕ
-answer_number (Ok u) = refusal_number refusal.Done
-answer_number (Err r) = refusal_number r
 
 -- 3.6e6, the millijoules of a watt hour, in binary64
 abbrev pub watt_hour : Float

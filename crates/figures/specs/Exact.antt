@@ -1,5 +1,5 @@
 -- Document 01: "whole part plus fraction equals the rounded sum exactly". Said over whole numbers, so that nothing is rounded in the saying.
-use Rattle.std.specs.Prelude.{◌≡◌, ◌⊎◌, Bool, true, cond, ℕ, ◌*◌, ℤ, pos, neg_ℤ, ◌+ℤ◌, ◌*ℤ◌, Float, Result, Ok, Err}
+use Rattle.std.specs.Prelude.{◌≡◌, ◌⊎◌, Bool, true, if◌then◌else◌, ℕ, ◌*◌, ℤ, pos, neg_ℤ, ◌+ℤ◌, ◌*ℤ◌, Float, Result, Ok, Err}
 use Rattle.std.specs.Float.{nan, inf, fin}
 use Rattle.std.specs.Float.Ieee.{up, down, lt, to_signed}
 use Rattle.numbers.specs.Binary32.{◌+f◌, ◌*f◌, one_f, is_finite, abs_of}
@@ -12,7 +12,7 @@ use Rattle.figures.specs.Acc.{thousand}
 
 -- n, or minus n for a minus sign
 abbrev pub with_sign : Bool → ℕ → ℤ
-with_sign minus n = cond minus (neg_ℤ (pos n)) (pos n)
+with_sign minus n = if minus then neg_ℤ (pos n) else pos n
 
 -- A finite float is numerator / denominator: `fin s m e` is m * 2 ^ e with the sign s, and 2 ^ e is up e / down e. A NaN and the infinities have no value; what stands for them here is never used.
 abbrev pub numerator : Float → ℤ
@@ -41,5 +41,5 @@ Exact a millijoules (Err r) = Unit {0}
 -- An add of joules to a lent record a that is answered with this number and leaves b: done, and its parts are those of the rounded sum; or full, and b is a.
 unfoldable pub ExactAfter : Acc → Float → ℕ → Acc → Type 0
 ExactAfter a joules number b =
-    ((number ≡ refusal_number refusal.Done) × ((w : ℤ) × Parts a (a.frac +f joules *f thousand) b w))
+    ((number ≡ 0) × ((w : ℤ) × Parts a (a.frac +f joules *f thousand) b w))
     ⊎ ((number ≡ refusal_number refusal.Full) × (b ≡ a))

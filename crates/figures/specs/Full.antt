@@ -4,12 +4,12 @@ use Rattle.std.specs.Float.Ieee.{to_signed}
 use Rattle.numbers.specs.Binary32.{◌+f◌, ◌*f◌}
 use Rattle.refusals.specs.declared.Refusal.{Refusal}
 use Rattle.refusals.specs.declared.Refusal.TheVariants as refusal
-use Rattle.refusals.specs.Number.{refusal_number}
+use Rattle.refusals.specs.Number.{refusal_number, told_number}
 use Rattle.figures.specs.declared.acc.Acc.{Acc}
 use Rattle.figures.specs.declared.tally.Tally.{Tally}
 use Rattle.figures.specs.declared.tally.Counted.{Counted}
 use Rattle.figures.specs.Acc.{sum_in_range, count_in_range, thousand}
-use Rattle.figures.specs.Tally.{seconds, accounted_number}
+use Rattle.figures.specs.Tally.{seconds}
 
 -- of one energy: "a millijoule count .. outside signed 64 bits, or a sum in `Acc::add` that is not finite or outside -2^63 <= sum < 2^63" (one that is not finite is in no range)
 abbrev pub add_full : Acc → Float → Bool
@@ -21,4 +21,4 @@ interval_full t dt p s active = ((active && add_full t.e (p *f seconds dt)) || a
 
 -- the answer full, number 6
 abbrev pub is_full : Result Counted Refusal → Bool
-is_full answer = eqb (accounted_number answer) (refusal_number refusal.Full)
+is_full answer = eqb (told_number answer) (refusal_number refusal.Full)

@@ -1,5 +1,5 @@
 -- Document 01: "`totals` gives power, apparent, reactive, factor, volts and amperes". The source's `totals`, rounded to binary32 at each operation, in the source's order.
-use Rattle.std.specs.Prelude.{cond, Float}
+use Rattle.std.specs.Prelude.{if◌then◌else◌, Float}
 use Rattle.std.specs.Float.{binary32}
 use Rattle.std.specs.Float.Ieee.{lt, neg, of_bits}
 use Rattle.numbers.specs.Binary32.{◌+f◌, ◌-f◌, ◌*f◌, ◌/f◌, zero_f, one_f, max_of, clamp_of}
@@ -16,7 +16,7 @@ load_volts vM pM i r = sqrt_of (max_of (vM *f vM -f two *f r *f pM +f r *f r *f 
 
 -- p / s, held to -1 to 1, where a NaN stays; 0 where s is not above zero
 unfoldable pub power_factor : Float → Float → Float
-power_factor p s = cond (lt zero_f s) (clamp_of (p /f s) (neg one_f) one_f) zero_f
+power_factor p s = if lt zero_f s then clamp_of (p /f s) (neg one_f) one_f else zero_f
 
 -- s * s - p * p, or zero where that is below zero or a NaN; then the root, which of infinity is a NaN
 unfoldable pub reactive : Float → Float → Float

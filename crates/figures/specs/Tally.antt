@@ -1,12 +1,12 @@
 -- The accounting step of one interval: what `pw_account` of the source adds to `e`, `va` and `t_int`, and refusal 6, "the accounting step would give a millijoule count or counted time outside signed 64 bits":
 -- the counts are tested in each add (Acc.antt), the time here. The step is taken while running and after a last time; elapsed time, last time and the 0 for a power that is not finite are the meter's.
-use Rattle.std.specs.Prelude.{◌≡◌, ◌⊎◌, Bool, true, false, cond, ℕ, ◌+◌, ◌^◌, ltb, ℤ, pos, ◌+ℤ◌, Float, Result, Ok, Err}
+use Rattle.std.specs.Prelude.{◌≡◌, ◌⊎◌, Bool, true, false, if◌then◌else◌, ℕ, ◌+◌, ◌^◌, ltb, ℤ, pos, ◌+ℤ◌, Float, Result, Ok, Err}
 use Rattle.std.specs.Float.{binary32}
 use Rattle.std.specs.Float.Ieee.{of_bits, of_int}
 use Rattle.numbers.specs.Binary32.{◌*f◌}
 use Rattle.refusals.specs.declared.Refusal.{Refusal}
 use Rattle.refusals.specs.declared.Refusal.TheVariants as refusal
-use Rattle.refusals.specs.Number.{refusal_number}
+use Rattle.refusals.specs.Number.{refusal_number, told_number}
 use Rattle.figures.specs.declared.acc.Acc.{Acc}
 use Rattle.figures.specs.declared.acc.Sum.{Sum}
 use Rattle.figures.specs.declared.tally.Tally.{Tally}
@@ -32,7 +32,7 @@ energy_step false e joules = Ok (record { acc = e; gained = pos 0 })
 
 -- the two energies with the time tInt + dt where that is below 2^63, else full; the whole millijoules of the active one are handed on
 unfoldable pub with_time : Sum → Acc → ℕ → ℕ → Result Counted Refusal
-with_time e va tInt dt = cond (ltb (tInt + dt) (2 ^ 63)) (Ok (record { tally = record { e = e.acc; va = va; t_int = tInt + dt }; gained = e.gained })) (Err refusal.Full)
+with_time e va tInt dt = if ltb (tInt + dt) (2 ^ 63) then Ok (record { tally = record { e = e.acc; va = va; t_int = tInt + dt }; gained = e.gained }) else Err refusal.Full
 
 -- counted only where both energies took their part
 unfoldable pub both : Result Sum Refusal → Result Sum Refusal → ℕ → ℕ → Result Counted Refusal
@@ -44,12 +44,8 @@ both (Err r) apparent tInt dt = Err r
 unfoldable pub accounting_step : Tally → ℕ → Float → Float → Bool → Result Counted Refusal
 accounting_step t dt p s active = both (energy_step active t.e (p *f seconds dt)) (add_to t.va (s *f seconds dt)) t.t_int dt
 
--- of each answer to a step from t: document 01's number, the tally that stands after it, and the whole millijoules that its active count gained (an allowance of active energy counts them; the apparent
--- count's are not asked for)
-abbrev pub accounted_number : Result Counted Refusal → ℕ
-accounted_number (Ok c) = refusal_number refusal.Done
-accounted_number (Err r) = refusal_number r
-
+-- of each answer to a step from t: the tally that stands after it, and the whole millijoules that its active count gained (an allowance of active energy counts them; the apparent count's are not asked for);
+-- document 01's number is its `told_number`
 abbrev pub accounted_tally : Tally → Result Counted Refusal → Tally
 accounted_tally t (Ok c) = c.tally
 accounted_tally t (Err r) = t
@@ -61,5 +57,5 @@ accounted_whole (Err r) = pos 0
 -- done; or full, and the tally as it was. Either way the active count gained what is told
 unfoldable pub Told : Tally → Result Counted Refusal → Type 0
 Told t answer =
-    ((accounted_number answer ≡ refusal_number refusal.Done) ⊎ ((accounted_number answer ≡ refusal_number refusal.Full) × (accounted_tally t answer ≡ t)))
+    ((told_number answer ≡ 0) ⊎ ((told_number answer ≡ refusal_number refusal.Full) × (accounted_tally t answer ≡ t)))
     × ((accounted_tally t answer).e.mj ≡ t.e.mj +ℤ accounted_whole answer)

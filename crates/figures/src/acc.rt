@@ -1,7 +1,8 @@
 //! The energy accumulator: whole millijoules, and a fraction of one, so that a small energy still
 //! counts beside a large total.
 ghost use Rattle.std.specs.Prelude.{◌≡◌};
-ghost use Rattle.figures.specs.Acc.{sum_in_range, acc_step, thousand, add_to, add_answer, answer_number, added_acc, watt_hours};
+ghost use Rattle.refusals.specs.Number.{told_number};
+ghost use Rattle.figures.specs.Acc.{sum_in_range, acc_step, thousand, add_to, add_answer, added_acc, watt_hours};
 ghost use Rattle.figures.specs.Exact.{Exact, ExactAfter};
 ghost use Rattle.numbers.specs.Binary32.{◌*f◌};
 
@@ -16,6 +17,8 @@ pub struct Acc {
 }
 
 /// What an add gives: the new record, and the whole millijoules that its count gained.
+// `Counted` of tally differs from it in the type of one field. In one generic struct that field would
+// have one name, and neither `sum.acc` nor `counted.tally` would say any more what stands there.
 #[derive(Clone, Copy)]
 pub struct Sum {
     pub acc: Acc,
@@ -27,10 +30,11 @@ impl Acc {
     pub const ZERO: Acc = Acc { mj: 0, frac: 0.0 };
 
     /// Adds to the caller's own record; where that is full, the record is as it was.
+    #[tactic(auto, using(crate::proofs::Exactly::exactly_added, crate::proofs::Exactly::exactly_refused))]
     pub fn add(&mut self, joules: f32) -> Result<(), Refusal>
         ensures is { result ≡ add_answer (add_to self.old joules) }
         ensures left { self.new ≡ added_acc self.old (add_to self.old joules) }
-        ensures exact { ExactAfter self.old joules (answer_number result) self.new }
+        ensures exact { ExactAfter self.old joules (told_number result) self.new }
     {
         let sum = add_to(*self, joules)?;
         *self = sum.acc;
@@ -58,6 +62,7 @@ fn sum_in_range(x: f32) -> bool
 
 /// The accumulator's own step: millijoules join the fraction, and the sum's whole part moves over to
 /// the count. Full where the sum or the new count is out of range.
+#[tactic(auto, using(crate::proofs::Step::out_case, crate::proofs::Step::full_case, crate::proofs::Step::sum_case, crate::proofs::Exactly::exact_of))]
 pub fn step(a: Acc, millijoules: f32) -> Result<Sum, Refusal>
     ensures is { result ≡ acc_step a millijoules }
     ensures exact { Exact a millijoules result }
@@ -67,9 +72,7 @@ pub fn step(a: Acc, millijoules: f32) -> Result<Sum, Refusal>
         return Err(Refusal::Full);
     }
     let gained = numbers::f32_to_i64(x);
-    let Some(mj) = a.mj.checked_add(gained) else {
-        return Err(Refusal::Full);
-    };
+    let mj = a.mj.checked_add(gained).ok_or(Refusal::Full)?;
     let frac = x - numbers::i64_to_f32(gained);
     Ok(Sum {
         acc: Acc { mj, frac },

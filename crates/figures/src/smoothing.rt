@@ -1,4 +1,6 @@
 //! Smoothing: a new value moves the smoothed one by a part of the way, or replaces it.
+// The four numbers are single parameters, in this order, as the source's calls of `ema(win, a, x, &mut y)`
+// and `ema_rel(a, floor, x, &mut y)` have them; y comes by value, and its new value is the answer.
 ghost use Rattle.std.specs.Prelude.{◌≡◌};
 ghost use Rattle.figures.specs.Smoothing.{ema, ema_rel};
 

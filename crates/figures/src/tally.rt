@@ -6,7 +6,7 @@ use crate::acc::{Acc, Sum, add_to};
 use refusals::Refusal;
 
 // The greatest time that counts: 2^63 - 1 ms.
-const MOST_TIME: u64 = 9223372036854775807;
+const MOST_TIME: u64 = i64::MAX as u64;
 
 /// The source's `e`, `va` and `t_int`: active energy in mJ, apparent energy in mVAs, time in ms.
 #[derive(Clone, Copy)]
@@ -35,7 +35,8 @@ pub struct Counted {
 }
 
 // The active energy after an interval of so many joules; where it does not count it stays, and gains
-// nothing.
+// nothing. (`active` is a mark, here and below: it is the meter's one yes or no whether the active energy
+// counts, the source's `!alt || dc`, and a C host calls `leaf_accounting_step` with it.)
 #[tactic(auto, unfolding(crate::specs::Tally::energy_step))]
 fn energy_step(active: bool, e: Acc, joules: f32) -> Result<Sum, Refusal>
     ensures { result ≡ energy_step active e joules }
@@ -56,13 +57,12 @@ fn with_time(e: Sum, va: Acc, t_int: u64, dt: u64) -> Result<Counted, Refusal>
     if t_int > MOST_TIME {
         return Err(Refusal::Full);
     }
-    let tally = Tally {
-        e: e.acc,
-        va,
-        t_int,
-    };
     Ok(Counted {
-        tally,
+        tally: Tally {
+            e: e.acc,
+            va,
+            t_int,
+        },
         gained: e.gained,
     })
 }
@@ -70,6 +70,7 @@ fn with_time(e: Sum, va: Acc, t_int: u64, dt: u64) -> Result<Counted, Refusal>
 /// The accounting step of an interval of dt ms at the power p and the apparent power s; the active
 /// energy counts where `active` says so (the source's `!alt || dc`). The whole millijoules told are
 /// what the active energy's count gained.
+#[tactic(auto, using(crate::proofs::Interval::energy_told, crate::proofs::Interval::apparent_told, crate::proofs::Interval::counted_told), unfolding(crate::specs::Tally::accounting_step, crate::specs::Tally::both, crate::specs::Tally::seconds))]
 pub fn accounting_step(t: Tally, dt: u64, p: f32, s: f32, active: bool) -> Result<Counted, Refusal>
     ensures is { result ≡ accounting_step t dt p s active }
     ensures told { Told t result }

@@ -1,5 +1,5 @@
 -- `energy_format` and `p_format` of the source: "(value, decimals, unit)". 1e3 and 1e-3 are figures' `thousand` and `milli`.
-use Rattle.std.specs.Prelude.{Bool, cond, not, ◌&&◌, ◌||◌, ℕ, Float}
+use Rattle.std.specs.Prelude.{Bool, if◌then◌else◌, not, ◌&&◌, ◌||◌, ℕ, Float}
 use Rattle.std.specs.Float.{binary32}
 use Rattle.std.specs.Float.Ieee.{lt, le, of_bits}
 use Rattle.numbers.specs.Binary32.{◌*f◌, one_f, abs_of}
@@ -26,7 +26,7 @@ full_scale_margin = of_bits binary32 0x3f86_6666  -- 1.05
 
 -- `dec` for a: in `energy_format` the size of the figure, in `p_format` its `f` with its sign. The source tests 10_000.0 as well there, with 1 on both sides
 unfoldable pub decimals_of : Float → ℕ
-decimals_of a = cond (lt a ten) 4 (cond (lt a hundred) 3 (cond (lt a thousand) 2 1))
+decimals_of a = if lt a ten then 4 else if lt a hundred then 3 else if lt a thousand then 2 else 1
 
 -- x * k, its decimals by its own size
 unfoldable pub scaled : Float → Float → Unit → Format
@@ -35,9 +35,9 @@ scaled x k u = record { number = x *f k; decimals = decimals_of (abs_of (x *f k)
 -- `energy_format`, where m is the size
 unfoldable pub energy_at : Float → Bool → Float → Format
 energy_at wh va m =
-    cond (lt m one_f && not va) (scaled wh thousand MilliwattHour)
-    (cond (lt m thousand || (va && lt m hundred_thousand)) (scaled wh one_f (cond va VoltAmpereHour WattHour))
-    (scaled wh milli (cond va KilovoltAmpereHour KilowattHour)))
+    if lt m one_f && not va then scaled wh thousand MilliwattHour
+    else if lt m thousand || (va && lt m hundred_thousand) then scaled wh one_f (if va then VoltAmpereHour else WattHour)
+    else scaled wh milli (if va then KilovoltAmpereHour else KilowattHour)
 
 unfoldable pub energy_format : Float → Bool → Format
 energy_format wh va = energy_at wh va (abs_of wh)
@@ -49,5 +49,6 @@ range_format fs si k u = record { number = si *f k; decimals = decimals_of (fs *
 -- `p_format`: kW from 9000 W of full scale on, mW below 1 W, else W; VA alike
 unfoldable pub p_format : Float → Float → Bool → Format
 p_format fs si watts =
-    cond (le nine_thousand fs) (record { number = si *f milli; decimals = 3; unit = cond watts Kilowatt KilovoltAmpere })
-    (cond (lt fs one_f) (range_format fs si thousand (cond watts Milliwatt MillivoltAmpere)) (range_format fs si one_f (cond watts Watt VoltAmpere)))
+    if le nine_thousand fs then record { number = si *f milli; decimals = 3; unit = if watts then Kilowatt else KilovoltAmpere }
+    else if lt fs one_f then range_format fs si thousand (if watts then Milliwatt else MillivoltAmpere)
+    else range_format fs si one_f (if watts then Watt else VoltAmpere)

@@ -1,5 +1,5 @@
 -- Document 01: "A `Val` holds number, decimals, unit and over mark; over gives number 0.0 (`Val::ol` is not in the text)". And `no_neg_zero` of the source.
-use Rattle.std.specs.Prelude.{Bool, true, false, cond, ℕ, zero, suc, Float}
+use Rattle.std.specs.Prelude.{Bool, true, false, if◌then◌else◌, ℕ, zero, suc, Float}
 use Rattle.std.specs.Float.{binary32}
 use Rattle.std.specs.Float.Ieee.{lt, of_bits}
 use Rattle.numbers.specs.Binary32.{◌*f◌, zero_f, one_f, abs_of}
@@ -25,7 +25,7 @@ half = of_bits binary32 0x3f00_0000  -- 0.5
 
 -- `no_neg_zero`: plus zero for "a value that rounds to zero" with so many decimals, by `(x * s).abs() < 0.5`
 unfoldable pub no_neg_zero : Float → ℕ → Float
-no_neg_zero x dec = cond (lt (abs_of (x *f tens dec)) half) zero_f x
+no_neg_zero x dec = if lt (abs_of (x *f tens dec)) half then zero_f else x
 
 -- `Val::new(no_neg_zero(x, dec), dec, u)`
 unfoldable pub shown : Format → Val
@@ -33,4 +33,4 @@ shown f = val_of (no_neg_zero f.number f.decimals) f.decimals f.unit
 
 -- `if ol { Val::ol(dec, u) } else { Val::new(no_neg_zero(x, dec), dec, u) }`
 unfoldable pub shown_unless : Bool → Format → Val
-shown_unless over f = cond over (over_val f.decimals f.unit) (shown f)
+shown_unless over f = if over then over_val f.decimals f.unit else shown f

@@ -56,7 +56,7 @@ impl Format {
         )
     }
 
-    /// The same, or over.
+    /// The same, or over where the mark is set: a C host reads that mark of the values.
     #[tactic(auto, unfolding(crate::specs::Readout::shown_unless))]
     pub fn shown_unless(self, over: bool) -> Val
         ensures { result ≡ shown_unless over self }
@@ -84,6 +84,8 @@ fn decimals_of(a: f32) -> u8
         1
     }
 }
+
+// `va` and `watts` stay marks, with `fs` and `si` beside them: the source's parameters, which the definitions and C name so.
 
 /// The source's `energy_format`: an apparent energy where `va`, else an active one.
 #[tactic(auto, unfolding(crate::specs::Formats::energy_format, crate::specs::Formats::energy_at))]

@@ -4,8 +4,10 @@ ghost use Rattle.formats.specs.Readout.{tens, no_neg_zero};
 
 use crate::units::Unit;
 
-/// A readout. The mark beside the number stays: C is handed both, and over has the number 0.0.
-#[derive(Clone, Copy)]
+/// A readout.
+// The mark stands beside the number, and no Option round it: document 01 says "A `Val` holds number,
+// decimals, unit and over mark; over gives number 0.0".
+#[derive(Clone, Copy, Debug, PartialEq)]
 pub struct Val {
     pub number: f32,
     pub decimals: u8,

@@ -1,24 +1,25 @@
 //! The source's unit strings as numbered units.
 ghost use Rattle.std.specs.Prelude.{◌≡◌};
 
+/// A unit of the source's.
 #[derive(Clone, Copy, Debug, PartialEq, Eq)]
 pub enum Unit {
-    Volt,
-    Ampere,
-    Milliampere,
-    Microampere,
-    Watt,
-    Milliwatt,
-    Kilowatt,
-    VoltAmpere,
-    MillivoltAmpere,
-    KilovoltAmpere,
-    WattHour,
-    MilliwattHour,
-    KilowattHour,
-    VoltAmpereHour,
-    KilovoltAmpereHour,
-    Millivolt,
+    Volt = 0,
+    Ampere = 1,
+    Milliampere = 2,
+    Microampere = 3,
+    Watt = 4,
+    Milliwatt = 5,
+    Kilowatt = 6,
+    VoltAmpere = 7,
+    MillivoltAmpere = 8,
+    KilovoltAmpere = 9,
+    WattHour = 10,
+    MilliwattHour = 11,
+    KilowattHour = 12,
+    VoltAmpereHour = 13,
+    KilovoltAmpereHour = 14,
+    Millivolt = 15,
 }
 
 /// The number by which a host knows a unit.
@@ -29,23 +30,6 @@ impl From<Unit> for u8 {
 
     #[tactic(auto, unfolding(crate::specs::Units::unit_number))]
     fn from(unit: Unit) -> u8 {
-        match unit {
-            Unit::Volt => 0,
-            Unit::Ampere => 1,
-            Unit::Milliampere => 2,
-            Unit::Microampere => 3,
-            Unit::Watt => 4,
-            Unit::Milliwatt => 5,
-            Unit::Kilowatt => 6,
-            Unit::VoltAmpere => 7,
-            Unit::MillivoltAmpere => 8,
-            Unit::KilovoltAmpere => 9,
-            Unit::WattHour => 10,
-            Unit::MilliwattHour => 11,
-            Unit::KilowattHour => 12,
-            Unit::VoltAmpereHour => 13,
-            Unit::KilovoltAmpereHour => 14,
-            Unit::Millivolt => 15,
-        }
+        unit as u8
     }
 }

@@ -1,5 +1,5 @@
 -- One conversion of the ring. Document 01: "sixteen latest conversions are kept with the meter, by `ring_k` modulo 16".
-use Rattle.std.specs.Prelude.{true, false, ◌&&◌, cond, ℕ, ◌-◌, ◌%◌, ltb, pos, get_or}
+use Rattle.std.specs.Prelude.{true, false, ◌&&◌, if◌then◌else◌, ℕ, ◌-◌, ◌%◌, ltb, pos, get_or}
 use Rattle.state.specs.declared.Ring.{Ring}
 use Rattle.host.specs.declared.ring.HostConversion.{HostConversion}
 
@@ -19,4 +19,4 @@ slot r k =
 
 -- the latest, of age 0, has the number ring_k - 1
 unfoldable pub conversion : Ring → ℕ → HostConversion
-conversion r age = cond (ltb age 16 && ltb age r.ring_k) (slot r ((r.ring_k - 1 - age) % 16)) no_conversion
+conversion r age = if ltb age 16 && ltb age r.ring_k then slot r ((r.ring_k - 1 - age) % 16) else no_conversion

@@ -36,5 +36,5 @@ text_only text = record { text = text; with_volts = false; volts = no_val }
 
 -- the text by its number, and the volts where there are any
 unfoldable pub host_partial : Partial → HostPartial
-host_partial (partial.RangingAt v) = record { text = partial_text (partial.RangingAt v); with_volts = true; volts = host_val v }
+host_partial (partial.Ranging (Some v)) = record { text = partial_text (partial.Ranging (Some v)); with_volts = true; volts = host_val v }
 host_partial p = text_only (partial_text p)

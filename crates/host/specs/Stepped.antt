@@ -1,10 +1,11 @@
 -- What a call takes and answers, as a C host hands it over and is handed it: document 01's number for the refusal, and all else of the answer as it is.
-use Rattle.std.specs.Prelude.{false, cond, ℕ, ltb, eqb, pos, Option, Some, None, is_some, Result, Ok, Err}
+use Rattle.std.specs.Prelude.{false, if◌then◌else◌, ℕ, ltb, eqb, pos, Option, Some, None, is_some, Result, Ok, Err}
+use Rattle.std.specs.Result.{result_unwrap_or}
 use Rattle.numbers.specs.Binary32.{zero_f}
 use Rattle.refusals.specs.declared.Refusal.{Refusal}
-use Rattle.refusals.specs.Number.{refusal_number}
+use Rattle.refusals.specs.Number.{told_number}
 use Rattle.state.specs.declared.Pw.{Pw}
-use Rattle.state.specs.Fresh.{no_time}
+use Rattle.state.specs.Fresh.{no_time, stamp_of}
 use Rattle.values.specs.declared.power_vals.PowerVals.{PowerVals}
 use Rattle.orders.specs.declared.answer.Answer.{Answer}
 use Rattle.orders.specs.declared.answer.Reading.{Reading}
@@ -20,7 +21,7 @@ use Rattle.host.specs.Shown.{no_val, host_readouts}
 
 -- a range asked for, by its number: below 256 that range, 256 automatic, any other no change
 unfoldable pub ask_of : ℕ → Ask
-ask_of n = cond (ltb n 256) (Fixed n) (cond (eqb n 256) Auto Stay)
+ask_of n = if ltb n 256 then Fixed n else if eqb n 256 then Auto else Stay
 
 -- where there is no reading every number is 0 and every mark no
 abbrev pub no_vals : PowerVals
@@ -48,13 +49,12 @@ host_reading None = no_reading
 
 -- "A refused call returns its number alone: no reading, no mark to the host, a count of 0"
 unfoldable pub host_answer : Result Answer Refusal → HostAnswer
-host_answer (Ok a) = record { refusal = 0; mark = a.mark; used = a.used; has_reading = is_some a.reading; reading = host_reading a.reading }
-host_answer (Err n) = record { refusal = refusal_number n; mark = no_time; used = 0; has_reading = false; reading = no_reading }
+host_answer (Ok a) = record { refusal = told_number (Ok a); mark = stamp_of a.mark; used = a.used; has_reading = is_some a.reading; reading = host_reading a.reading }
+host_answer (Err n) = record { refusal = told_number {A = Answer} (Err n); mark = no_time; used = 0; has_reading = false; reading = no_reading }
 
 abbrev pub host_step : Step → HostStep
 host_step s = record { meter = s.pw; answer = host_answer s.answer }
 
 -- "no meter made": what stands in its place is a plain one, off
 unfoldable pub host_made : Result Pw Refusal → HostMade
-host_made (Ok m) = record { refusal = 0; meter = m }
-host_made (Err n) = record { refusal = refusal_number n; meter = plain_meter }
+host_made made = record { refusal = told_number made; meter = result_unwrap_or made plain_meter }

@@ -1,4 +1,5 @@
-//! One conversion of the ring.
+//! One conversion of the ring. C is handed a struct, which include/pw.h lays out, and has no `Option`: so the mark `found`
+//! stands beside the values.
 ghost use Rattle.std.specs.Prelude.{◌≡◌};
 ghost use Rattle.host.specs.Ring.{conversion};
 

@@ -1,4 +1,6 @@
-//! What a screen shows.
+//! What a screen shows. C is handed structs, which include/pw.h lays out, and has no `Option`: so the marks `measured`
+//! and `with_volts` stand beside the values. So does `over`: where a range is passed the number is 0.0, and decimals and
+//! unit are handed over all the same.
 ghost use Rattle.std.specs.Prelude.{◌≡◌};
 
 use formats::readout::Val;
@@ -116,7 +118,7 @@ impl From<Partial> for HostPartial {
     fn from(partial: Partial) -> HostPartial {
         let text = u8::from(partial);
         match partial {
-            Partial::RangingAt(volts) => HostPartial {
+            Partial::Ranging(Some(volts)) => HostPartial {
                 text,
                 with_volts: true,
                 volts: HostVal::from(volts),

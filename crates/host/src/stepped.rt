@@ -1,15 +1,14 @@
-//! What a call takes and answers.
+//! What a call takes and answers. C is handed structs, which include/pw.h lays out, and has no `Result` and no `Option`:
+//! so the number `refusal` and the mark `has_reading` stand beside the values.
 ghost use Rattle.std.specs.Prelude.{◌≡◌};
-ghost use Rattle.orders.specs.Answer.{refused_with};
-ghost use Rattle.meter.specs.Frame.{frame_done};
-ghost use Rattle.host.specs.Stepped.{ask_of, host_reading, host_answer, host_step, host_made};
+ghost use Rattle.host.specs.Stepped.{ask_of};
 
 use crate::shown::{HostReadouts, NO_VAL};
 use figures::load::Figures;
 use meter::making::plain_meter;
 use orders::answer::{Answer, Reading, Step};
 use orders::ranges::Ask;
-use refusals::{Refusal, number};
+use refusals::{Refusal, told_number};
 use state::{Pw, Ranges, Stamp};
 use values::power_vals::{Energies, InForce, Limits, PowerVals, Split};
 
@@ -48,6 +47,8 @@ pub struct HostMade {
     pub meter: Pw,
 }
 
+// All is 0 and no, as include/pw.h says. (`PowerVals::ZERO` is the source's, in ranges 3 and 5 found by themselves, DC
+// coupling, counting, with no mean power: an update of it would write three of its groups anew, and hide the zeros.)
 const NO_READING: HostReading = HostReading {
     readouts: HostReadouts {
         main: NO_VAL,
@@ -108,99 +109,90 @@ const NO_READING: HostReading = HostReading {
 };
 
 /// What a number asks of a range: below 256 that range, 256 (PW_AUTO) that it be found by itself, any
-/// other nothing (PW_KEEP is 257).
+/// other nothing (PW_KEEP is 257). (A function and no `From`, since neither `u16` nor `Ask` is a type of this crate.)
 #[tactic(auto, unfolding(crate::specs::Stepped::ask_of))]
 pub fn ask_of(asked: u16) -> Ask
     ensures { result ≡ ask_of asked }
 {
-    if asked < 256 {
-        return Ask::Fixed(asked as u8);
-    }
-    if asked == 256 {
-        return Ask::Auto;
-    }
-    Ask::Stay
-}
-
-// Where there is no reading every number is 0 and every mark no.
-#[tactic(auto, unfolding(crate::specs::Stepped::host_reading))]
-fn host_reading(reading: Option<Reading>) -> HostReading
-    ensures { result ≡ host_reading reading }
-{
-    match reading {
-        Some(read) => HostReading {
-            readouts: HostReadouts::from(read.readouts),
-            vals: read.vals,
-        },
-        None => NO_READING,
+    match u8::try_from(asked) {
+        Ok(range) => Ask::Fixed(range),
+        Err(_) if asked == 256 => Ask::Auto,
+        Err(_) => Ask::Stay,
     }
 }
 
-// A refused call's answer is its number alone.
-#[tactic(auto, unfolding(crate::specs::Stepped::host_answer))]
-fn host_answer(answer: Result<Answer, Refusal>) -> HostAnswer
-    ensures { result ≡ host_answer answer }
-{
-    match answer {
-        Ok(answer) => HostAnswer {
-            refusal: 0,
-            mark: answer.mark,
-            used: answer.used,
-            has_reading: answer.reading.is_some(),
-            reading: host_reading(answer.reading),
-        },
-        Err(refusal) => HostAnswer {
-            refusal: number(refusal),
-            mark: Stamp::NONE,
-            used: 0,
-            has_reading: false,
-            reading: NO_READING,
-        },
+/// The readouts of a reading with the values that they are of; every number 0 and every mark no where there is none.
+impl From<Option<Reading>> for HostReading {
+    ghost use Rattle.host.specs.Stepped.{host_reading};
+
+    ghost from_gives = { λ reading read. read ≡ host_reading reading };
+
+    #[tactic(auto, unfolding(crate::specs::Stepped::host_reading))]
+    fn from(reading: Option<Reading>) -> HostReading {
+        match reading {
+            Some(read) => HostReading {
+                readouts: HostReadouts::from(read.readouts),
+                vals: read.vals,
+            },
+            None => NO_READING,
+        }
     }
 }
 
-/// A refused call.
-#[tactic(auto, unfolding(orders::specs::Answer::refused_with))]
-pub fn host_refused(refusal: Refusal, meter: Pw) -> HostStep
-    ensures { result ≡ host_step (refused_with refusal meter) }
-{
-    HostStep {
-        meter,
-        answer: host_answer(Err(refusal)),
-    }
-}
+/// What a call answers, with the refusal by its number: a refused one answers its number alone.
+impl From<Result<Answer, Refusal>> for HostAnswer {
+    ghost use Rattle.host.specs.Stepped.{host_answer};
 
-/// A frame that is done.
-pub fn host_done(meter: Pw, answer: Answer) -> HostStep
-    ensures { result ≡ host_step (frame_done meter answer.mark answer.used answer.reading) }
-{
-    HostStep {
-        meter,
-        answer: host_answer(Ok(answer)),
+    ghost from_gives = { λ answer told. told ≡ host_answer answer };
+
+    #[tactic(auto, unfolding(crate::specs::Stepped::host_answer))]
+    fn from(answer: Result<Answer, Refusal>) -> HostAnswer {
+        let refusal = told_number(&answer);
+        match answer {
+            Ok(answer) => HostAnswer {
+                refusal,
+                mark: Stamp::from(answer.mark),
+                used: answer.used,
+                has_reading: answer.reading.is_some(),
+                reading: HostReading::from(answer.reading),
+            },
+            Err(_) => HostAnswer {
+                refusal,
+                mark: Stamp::NONE,
+                used: 0,
+                has_reading: false,
+                reading: NO_READING,
+            },
+        }
     }
 }
 
 /// A call's step: the meter after it, and its answer with the refusal by its number.
-pub fn host_step(step: Step) -> HostStep
-    ensures { result ≡ host_step step }
-{
-    HostStep {
-        meter: step.pw,
-        answer: host_answer(step.answer),
+impl From<Step> for HostStep {
+    ghost use Rattle.host.specs.Stepped.{host_step};
+
+    ghost from_gives = { λ step told. told ≡ host_step step };
+
+    fn from(step: Step) -> HostStep {
+        HostStep {
+            meter: step.pw,
+            answer: HostAnswer::from(step.answer),
+        }
     }
 }
 
 /// What the making of a meter answers, with the refusal by its number; where none is made a plain one that is off
 /// stands in its place.
-#[tactic(auto, unfolding(crate::specs::Stepped::host_made))]
-pub fn host_made(made: Result<Pw, Refusal>) -> HostMade
-    ensures { result ≡ host_made made }
-{
-    match made {
-        Ok(meter) => HostMade { refusal: 0, meter },
-        Err(refusal) => HostMade {
-            refusal: number(refusal),
-            meter: plain_meter(),
-        },
+impl From<Result<Pw, Refusal>> for HostMade {
+    ghost use Rattle.host.specs.Stepped.{host_made};
+
+    ghost from_gives = { λ made told. told ≡ host_made made };
+
+    #[tactic(auto, unfolding(crate::specs::Stepped::host_made))]
+    fn from(made: Result<Pw, Refusal>) -> HostMade {
+        HostMade {
+            refusal: told_number(&made),
+            meter: made.unwrap_or_else(|_| plain_meter()),
+        }
     }
 }

@@ -15,6 +15,7 @@ use state::{Pw, Settings};
 use tables::description::Description;
 
 /// A call on a meter, by its function in `pw`, with what a host hands that beside the meter.
+// It derives no `PartialEq` or `Debug`: a call is only run, and `Settings` in it has neither.
 #[derive(Clone, Copy)]
 pub enum HostCall<'a> {
     On {
@@ -98,7 +99,8 @@ pub fn run(meter: Pw, calls: &[HostCall]) -> Pw
     now
 }
 
-/// Makes a meter, and runs a host's calls on it: document 01's demand 3, of the functions that a host calls.
+/// Makes a meter, and runs a host's calls on it: document 01's demand 3, of the functions that a host calls. (Description,
+/// words and valid mark are three parameters: a C host hands them to `pw_make` so.)
 pub fn make_and_run(
     description: Description,
     words: &[u32],

@@ -10,14 +10,13 @@ use lib.Dec.{ltb, eqb}
 use lib.IntN.{ℤ}
 use lib.ListN.{length}
 use lib.Ieee.{Float}
-use Rattle.std.specs.Prelude.{Result, Ok, Err}
+use Rattle.std.specs.Prelude.{None, Result, Ok, Err}
 use Rattle.numbers.specs.Binary32.{◌+f◌, zero_f}
 use Rattle.numbers.proofs.Cases.{either, by_test}
 use Rattle.codes.specs.declared.Codes.{Codes}
 use Rattle.tables.specs.Constants.{job_n, jr_ok, jr_signal}
 use Rattle.tables.specs.declared.calibration.Calibration.{Calibration}
 use Rattle.state.specs.declared.Pw.{Pw}
-use Rattle.state.specs.Fresh.{no_time}
 use Rattle.state.specs.Counting.{count_up}
 use Rattle.state.proofs.Marks.{MarkAt, Settle, of_apply, of_ac, of_dc}
 use Rattle.phase.specs.Phase.{cal_off}
@@ -71,7 +70,7 @@ abbrev pub polled_at : ℕ → Pw → Pw
 polled_at now m = record m { clock = record m.clock { t_poll = now } }
 
 pub not_ready : (m : Pw) (now flags : ℕ) (f : Codes) → ready (place_in m.job) flags ≡ false
-    → job_polled m now flags f ≡ record { pw = polled_at now m; mark = no_time; used = m.job.used }
+    → job_polled m now flags f ≡ record { pw = polled_at now m; mark = None; used = m.job.used }
 unfolding job_polled job_frame bench_in
 not_ready m now flags f e = rw (e)
 

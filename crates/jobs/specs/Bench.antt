@@ -1,9 +1,8 @@
 -- A job's beginning, the beginning of each of its steps, and its end: `pw_job_start`, `pw_job_step` and `pw_job_end` of the source, over the part of a meter that a job works on.
-use Rattle.std.specs.Prelude.{true, cond, ℕ, eqb}
+use Rattle.std.specs.Prelude.{if◌then◌else◌, ℕ, eqb, None, Some}
 use Rattle.numbers.specs.Binary32.{zero_f}
 use Rattle.tables.specs.Constants.{jr_run, jr_method}
 use Rattle.state.specs.declared.Job.{Job}
-use Rattle.state.specs.Fresh.{no_time}
 use Rattle.state.specs.Counting.{deadline, count_up}
 use Rattle.steps.specs.declared.place.Kind.{Kind}
 use Rattle.steps.specs.declared.place.Place.{Place}
@@ -21,7 +20,7 @@ place_in j = place_of (layout_of (kind_in j) j.job_dc) j.job_step
 
 -- no mark to the host
 abbrev pub unmarked : Bench → Served
-unmarked b = record { bench = b; mark = no_time }
+unmarked b = record { bench = b; mark = None }
 
 -- ---- the end
 
@@ -36,7 +35,7 @@ ended res b =
 
 -- `if job == 0 { return }`: where none runs, nothing changes
 unfoldable pub ended_if_any : ℕ → Bench → Bench
-ended_if_any res b = cond (eqb b.job.job 0) b (ended res b)
+ended_if_any res b = if eqb b.job.job 0 then b else ended res b
 
 -- ---- a step's beginning
 
@@ -54,7 +53,7 @@ step_at now s b =
         cycle = with_row b.cycle (drops_of (place_in j)) (stat_of (place_in j));
         job = j;
       };
-      mark = record { set = true; at = deadline now (settle_of (place_in j)) };
+      mark = Some (deadline now (settle_of (place_in j)));
     }
 
 -- `job_step += 1`, and its beginning

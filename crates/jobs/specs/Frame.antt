@@ -1,5 +1,5 @@
 -- A frame in a job: the first half of `pw_job_poll`.
-use Rattle.std.specs.Prelude.{Bool, cond, ℕ, ◌-◌, ltb, Result, Ok, Err}
+use Rattle.std.specs.Prelude.{Bool, if◌then◌else◌, ℕ, ◌-◌, ltb, Result, Ok, Err}
 use Rattle.numbers.specs.Binary32.{◌+f◌}
 use Rattle.codes.specs.declared.Codes.{Codes}
 use Rattle.tables.specs.Constants.{job_n, jr_signal}
@@ -25,9 +25,9 @@ summed r t = with_job t (with_sums t.job (count_up t.job.job_n) (t.job.job_a +f 
 unfoldable pub counted : ℕ → Reading → Bench → Served
 counted now r t =
     let s = summed r t in
-    cond (ltb s.job.job_n job_n) (unmarked s) (step_done now (kind_in s.job) (mean_of s.job.job_a) (mean_of s.job.job_b) s)
+    if ltb s.job.job_n job_n then unmarked s else step_done now (kind_in s.job) (mean_of s.job.job_a) (mean_of s.job.job_b) s
 
--- a reading that is one counts, another ends the job with its result
+-- `Ok` is counted, an error ends the job with its number
 abbrev pub by_reading : ℕ → Result Reading JobError → Bench → Served
 by_reading now (Ok r) t = counted now r t
 by_reading now (Err e) t = ended_unmarked (error_number e) t
@@ -38,7 +38,7 @@ dropped t = with_cycle t (with_skip t.cycle (t.cycle.skip - 1))
 
 -- a ready frame, by its reading and whether it is a signal where none may be
 unfoldable pub served_by : ℕ → Bool → Reading → Bench → Served
-served_by now sig r t = cond (ltb 0 t.cycle.skip) (unmarked (dropped t)) (cond sig (ended_unmarked jr_signal t) (counted now r t))
+served_by now sig r t = if ltb 0 t.cycle.skip then unmarked (dropped t) else if sig then ended_unmarked jr_signal t else counted now r t
 
 -- "The answer reports how many ready frames the job has used, dropped ones included"
 abbrev pub one_used : Bench → Bench
@@ -51,4 +51,4 @@ served now c f t =
 
 -- a frame that is not ready changes nothing here
 unfoldable pub job_frame : ℕ → Calibration → ℕ → Codes → Bench → Served
-job_frame now c flags f t = cond (ready (place_in t.job) flags) (served now c f (one_used t)) (unmarked t)
+job_frame now c flags f t = if ready (place_in t.job) flags then served now c f (one_used t) else unmarked t

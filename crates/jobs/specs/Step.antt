@@ -1,5 +1,5 @@
 -- What a step's two means do to the job: the second half of `pw_job_poll`, once `job_n < JOB_N` holds no longer.
-use Rattle.std.specs.Prelude.{Bool, true, cond, ℕ, ◌-◌, ◌/◌, ◌%◌, ltb, eqb, ℤ, get_or, set, Float, Result, Ok, Err}
+use Rattle.std.specs.Prelude.{Bool, true, if◌then◌else◌, ℕ, ◌-◌, ◌/◌, ◌%◌, ltb, eqb, ℤ, get_or, set, Float, Result, Ok, Err}
 use Rattle.std.specs.Float.{nan}
 use Rattle.tables.specs.Bounds.{at_most}
 use Rattle.tables.specs.Constants.{jr_ok}
@@ -32,8 +32,9 @@ zeros_stored z t = with_corrections t (with_zeros t.corrections t.job.job_zx t.j
 
 unfoldable pub zero_done : ℕ → ℤ → Bench → Served
 zero_done now z t =
-    cond (ltb t.job.job_step 6) (next now (zx_noted z t))
-    (cond (ltb t.job.job_step 12) (next now (zd_noted z t)) (ended_unmarked jr_ok (zeros_stored z t)))
+    if ltb t.job.job_step 6 then next now (zx_noted z t)
+    else if ltb t.job.job_step 12 then next now (zd_noted z t)
+    else ended_unmarked jr_ok (zeros_stored z t)
 
 -- ---- the gain job
 
@@ -73,14 +74,13 @@ judged t = by_gain (verdict_in t) t
 
 -- a reference step; step 3 is the last
 unfoldable pub ref_done : ℕ → Float → Bench → Served
-ref_done now a t = cond (ltb t.job.job_step 3) (next now (ref_noted a t)) (judged (ref_noted a t))
+ref_done now a t = if ltb t.job.job_step 3 then next now (ref_noted a t) else judged (ref_noted a t)
 
 -- "step 0 fixes DC or AC"
 unfoldable pub gain_done : ℕ → Float → Float → Bench → Served
 gain_done now a b t =
-    cond (eqb (t.job.job_step % 2) 0)
-    (raw_done now (cond (eqb t.job.job_step 0) (is_dc a b) t.job.job_dc) a b t)
-    (ref_done now a t)
+    if eqb (t.job.job_step % 2) 0 then raw_done now (if eqb t.job.job_step 0 then is_dc a b else t.job.job_dc) a b t
+    else ref_done now a t
 
 -- the means a of the main values and b of the second ones
 abbrev pub step_done : ℕ → Kind → Float → Float → Bench → Served

@@ -3,7 +3,7 @@ ghost use Rattle.std.specs.Prelude.{◌≡◌};
 ghost use Rattle.steps.specs.Error.{result_number};
 ghost use Rattle.jobs.specs.Bench.{kind_in, place_in, unmarked, ended, ended_if_any, step_at, next, begun, turned_away};
 
-use state::{Corrections, Cycle, Job, Mode, Ranges, Stamp, count_up, deadline};
+use state::{Corrections, Cycle, Job, Mode, Ranges, count_up, deadline};
 use steps::error::{JobError, result_number};
 use steps::place::{Kind, Place};
 use tables::constants::{JR_METHOD, JR_RUN};
@@ -11,7 +11,6 @@ use tables::constants::{JR_METHOD, JR_RUN};
 /// The part of a meter that a job works on: all that a job may change, but `cal` (by its start) and
 /// `t_poll` (by a frame).
 #[derive(Clone, Copy)]
-#[repr(C)]
 pub struct Bench {
     pub mode: Mode,
     pub ranges: Ranges,
@@ -20,12 +19,13 @@ pub struct Bench {
     pub job: Job,
 }
 
-/// What a call leaves of it; a mark is set exactly where a step begins.
+/// What a call leaves of it, and the deadline of its mark to the host, which is there exactly where a step begins.
+/// (`Started` and `Polled` have a mark too, but what is left there is a whole meter, and with `Polled` a count: one
+/// generic struct for the three would name none of these.)
 #[derive(Clone, Copy)]
-#[repr(C)]
 pub struct Served {
     pub bench: Bench,
-    pub mark: Stamp,
+    pub mark: Option<u64>,
 }
 
 impl Served {
@@ -33,10 +33,7 @@ impl Served {
     pub(crate) fn unmarked(bench: Bench) -> Served
         ensures { result ≡ unmarked bench }
     {
-        Served {
-            bench,
-            mark: Stamp::NONE,
-        }
+        Served { bench, mark: None }
     }
 }
 
@@ -118,7 +115,7 @@ impl Bench {
                 },
                 ..begun
             },
-            mark: Stamp { set: true, at },
+            mark: Some(at),
         }
     }
 

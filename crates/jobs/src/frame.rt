@@ -3,10 +3,11 @@ ghost use Rattle.std.specs.Prelude.{◌≡◌};
 ghost use Rattle.jobs.specs.Frame.{counted, by_reading, served, job_frame};
 
 use crate::bench::{Bench, Served};
-use codes::Codes;
+use codes::{Codes, Frame};
 use state::{Cycle, Job, count_up};
 use steps::error::JobError;
 use steps::reading::{Reading, counted_reading};
+use steps::verdict::Means;
 use tables::calibration::Calibration;
 use tables::constants::JOB_N;
 
@@ -26,10 +27,14 @@ impl Bench {
         if job.job_n < JOB_N {
             return Served::unmarked(after);
         }
-        after.step_done(now, job.job_a / 3.0, job.job_b / 3.0)
+        let means = Means {
+            a: job.job_a / 3.0,
+            b: job.job_b / 3.0,
+        };
+        after.step_done(now, means)
     }
 
-    // What the reading of a frame does that is not dropped: it is counted, or ends the job.
+    // Of a frame that is not dropped: its reading is counted, or its error ends the job.
     fn count_or_end(self, now: u64, reading: Result<Reading, JobError>) -> Served
         ensures { result ≡ by_reading now reading self }
     {
@@ -64,22 +69,16 @@ impl Bench {
 
     /// A frame in a job; one that is not ready changes nothing.
     #[tactic(auto, unfolding(crate::specs::Frame::job_frame))]
-    pub(crate) fn job_frame(
-        self,
-        now: u64,
-        calibration: Calibration,
-        flags: u8,
-        codes: Codes,
-    ) -> Served
-        ensures { result ≡ job_frame now calibration flags codes self }
+    pub(crate) fn job_frame(self, calibration: Calibration, frame: Frame) -> Served
+        ensures { result ≡ job_frame frame.now calibration frame.flags frame.codes self }
     {
-        if !self.place().is_ready(flags) {
+        if !self.place().is_ready(frame.flags) {
             return Served::unmarked(self);
         }
         let job = Job {
             used: count_up(self.job.used),
             ..self.job
         };
-        Bench { job, ..self }.serve(now, calibration, codes)
+        Bench { job, ..self }.serve(frame.now, calibration, frame.codes)
     }
 }

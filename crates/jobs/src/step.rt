@@ -9,14 +9,14 @@ use crate::bench::{Bench, Served};
 use state::Corrections;
 use steps::error::JobError;
 use steps::place::Kind;
-use steps::verdict::{gain_verdict, is_dc, part_of, raw_verdict, zero_mean};
-use tables::bounds::at_most;
+use steps::verdict::{Means, gain_verdict, zero_mean};
 
 // The round that a step of the gain job belongs to.
+#[tactic(auto, unfolding(tables::specs::Bounds::at_most))]
 fn round_of(step: u8) -> usize
     ensures { result ≡ at_most 1 (step / 2) }
 {
-    at_most(1, step / 2) as usize
+    usize::from((step / 2).min(1))
 }
 
 impl Bench {
@@ -35,8 +35,8 @@ impl Bench {
     {
         let mut job = self.job;
         match job.job_step {
-            step @ 0..=5 => job.job_zx[step as usize] = zero,
-            step @ 6..=11 => job.job_zd[(step - 6) as usize] = zero,
+            step @ 0..=5 => job.job_zx[usize::from(step)] = zero,
+            step @ 6..=11 => job.job_zd[usize::from(step - 6)] = zero,
             _ => {
                 let corrections = Corrections {
                     zx: job.job_zx,
@@ -57,21 +57,21 @@ impl Bench {
 
     // A raw step of the gain job is done: both are noted whatever the verdict.
     #[tactic(auto, using(tables::proofs::Held::at_most_law), unfolding(crate::specs::Step::raw_done))]
-    fn raw_done(self, now: u64, dc: bool, a: f32, b: f32) -> Served
-        ensures { result ≡ raw_done now dc a b self }
+    fn raw_done(self, now: u64, dc: bool, means: Means) -> Served
+        ensures { result ≡ raw_done now dc means.a means.b self }
     {
         let mut job = self.job;
         job.job_dc = dc;
-        job.job_raw[round_of(job.job_step)] = part_of(dc, a, b);
+        job.job_raw[round_of(job.job_step)] = means.part(dc);
         let noted = Bench { job, ..self };
-        match raw_verdict(dc, self.ranges.vr, a, b) {
+        match means.raw_verdict(dc, self.ranges.vr) {
             Ok(()) => noted.next(now),
             Err(error) => noted.end_unmarked(Err(error)),
         }
     }
 
     // The gain job ends by the verdict on both rounds: a good gain is stored for the V range in force.
-    #[tactic(auto, using(tables::proofs::Held::at_most_law), unfolding(crate::specs::Step::judged))]
+    #[tactic(auto, unfolding(crate::specs::Step::judged, tables::specs::Bounds::at_most))]
     fn judged(self) -> Served
         ensures { result ≡ judged self }
     {
@@ -80,7 +80,7 @@ impl Bench {
         match gain_verdict(raw0, ref0, raw1, ref1) {
             Ok(gain) => {
                 let mut corrections = self.corrections;
-                corrections.vgain[at_most(3, self.ranges.vr) as usize] = gain;
+                corrections.vgain[usize::from(self.ranges.vr.min(3))] = gain;
                 let stored = Bench {
                     corrections,
                     ..self
@@ -107,23 +107,23 @@ impl Bench {
 
     // A step of the gain job is done; step 0 fixes DC or AC.
     #[tactic(auto, unfolding(crate::specs::Step::gain_done))]
-    fn gain_done(self, now: u64, a: f32, b: f32) -> Served
-        ensures { result ≡ gain_done now a b self }
+    fn gain_done(self, now: u64, means: Means) -> Served
+        ensures { result ≡ gain_done now means.a means.b self }
     {
         match self.job.job_step {
-            0 => self.raw_done(now, is_dc(a, b), a, b),
-            step if step % 2 == 0 => self.raw_done(now, self.job.job_dc, a, b),
-            _ => self.ref_done(now, a),
+            0 => self.raw_done(now, means.is_dc(), means),
+            step if step % 2 == 0 => self.raw_done(now, self.job.job_dc, means),
+            _ => self.ref_done(now, means.a),
         }
     }
 
-    /// A step is done, with the means a of the main values and b of the second ones.
-    pub(crate) fn step_done(self, now: u64, a: f32, b: f32) -> Served
-        ensures { result ≡ step_done now (kind_in self.job) a b self }
+    /// A step is done, with these means.
+    pub(crate) fn step_done(self, now: u64, means: Means) -> Served
+        ensures { result ≡ step_done now (kind_in self.job) means.a means.b self }
     {
         match self.kind() {
-            Kind::Zero => self.zero_done(now, zero_mean(a)),
-            Kind::Gain => self.gain_done(now, a, b),
+            Kind::Zero => self.zero_done(now, zero_mean(means.a)),
+            Kind::Gain => self.gain_done(now, means),
         }
     }
 }

@@ -4,35 +4,33 @@ ghost use Rattle.steps.specs.Error.{result_number};
 ghost use Rattle.jobs.specs.Whole.{bench_in, with_bench, job_started, job_turned_away, job_ended, job_polled};
 
 use crate::bench::{Bench, turned_away};
-use codes::Codes;
+use codes::Frame;
 use phase::cal_off;
-use state::{Clock, Pw, Stamp};
+use state::{Clock, Pw};
 use steps::error::JobError;
 use steps::place::Kind;
 
-/// What a job's start leaves, and the mark to the host.
+/// What a job's start leaves, and the mark to the host: its deadline.
 #[derive(Clone, Copy)]
-#[repr(C)]
 pub struct Started {
     pub pw: Pw,
-    pub mark: Stamp,
+    pub mark: Option<u64>,
 }
 
 /// What a frame in a job leaves, its mark, and the ready frames that the job has used.
 #[derive(Clone, Copy)]
-#[repr(C)]
 pub struct Polled {
     pub pw: Pw,
-    pub mark: Stamp,
+    pub mark: Option<u64>,
     pub used: u8,
 }
 
-impl Bench {
-    // The part of a meter that a job works on.
+/// The part of a meter that a job works on.
+impl From<Pw> for Bench {
+    ghost from_gives = { λ pw bench. bench ≡ bench_in pw };
+
     #[tactic(auto, unfolding(crate::specs::Whole::bench_in))]
-    fn of(pw: Pw) -> Bench
-        ensures { result ≡ bench_in pw }
-    {
+    fn from(pw: Pw) -> Bench {
         Bench {
             mode: pw.mode,
             ranges: pw.ranges,
@@ -41,7 +39,9 @@ impl Bench {
             job: pw.job,
         }
     }
+}
 
+impl Bench {
     // The meter with that changed.
     #[tactic(auto, unfolding(crate::specs::Whole::with_bench))]
     fn put_into(self, before: Pw) -> Pw
@@ -63,7 +63,7 @@ impl Bench {
 pub fn job_start(before: Pw, kind: Kind, now: u64) -> Started
     ensures { result ≡ job_started before kind now }
 {
-    let served = Bench::of(before).begin(now, kind);
+    let served = Bench::from(before).begin(now, kind);
     Started {
         pw: Pw {
             phase_cal: cal_off(before.phase_cal),
@@ -89,19 +89,19 @@ pub fn job_turned_away(before: Pw, kind: Kind) -> Pw
 pub fn job_end(before: Pw, end: Result<(), JobError>) -> Pw
     ensures { result ≡ job_ended before (result_number end) }
 {
-    Bench::of(before).end_if_any(end).put_into(before)
+    Bench::from(before).end_if_any(end).put_into(before)
 }
 
 /// A frame in a job. (Where none runs, it is taken as a gain job's; module 7 calls it only in a job.)
 #[tactic(auto, unfolding(crate::specs::Whole::job_polled, crate::specs::Whole::with_bench))]
-pub fn job_poll(before: Pw, now: u64, flags: u8, codes: Codes) -> Polled
-    ensures { result ≡ job_polled before now flags codes }
+pub fn job_poll(before: Pw, frame: Frame) -> Polled
+    ensures { result ≡ job_polled before frame.now frame.flags frame.codes }
 {
-    let served = Bench::of(before).job_frame(now, before.calibration, flags, codes);
+    let served = Bench::from(before).job_frame(before.calibration, frame);
     Polled {
         pw: Pw {
             clock: Clock {
-                t_poll: now,
+                t_poll: frame.now,
                 ..before.clock
             },
             ..served.bench.put_into(before)

@@ -1,20 +1,19 @@
 -- What a C program is handed: plain structs of numbers.
 use Rattle.refusals.specs.declared.Refusal.{Refusal}
-use Rattle.refusals.specs.declared.Refusal.TheVariants.{Done}
-use Rattle.refusals.specs.Number.{refusal_number}
-use Rattle.tables.specs.declared.ranges.IuIr.{IuIr}
+use Rattle.refusals.specs.Number.{told_number}
 use Rattle.tables.specs.declared.calibration.Calibration.{Calibration}
 use Rattle.tables.specs.Calibration.{no_calibration}
 use Rattle.figures.specs.declared.acc.Acc.{Acc}
 use Rattle.figures.specs.declared.acc.Sum.{Sum}
-use Rattle.figures.specs.Acc.{added_number, added_acc, added_whole}
+use Rattle.figures.specs.Acc.{added_acc, added_whole}
 use Rattle.figures.specs.declared.tally.Tally.{Tally}
 use Rattle.figures.specs.declared.tally.Counted.{Counted}
-use Rattle.figures.specs.Tally.{accounted_number, accounted_tally, accounted_whole}
-use Rattle.std.specs.Prelude.{true, false, cond, ℕ, eqb, ℤ, pos, Result, Ok, Err}
+use Rattle.figures.specs.Tally.{accounted_tally, accounted_whole}
+use Rattle.std.specs.Prelude.{false, if◌then◌else◌, ℕ, eqb, ℤ, pos, Result}
 use Rattle.std.specs.Result.{result_unwrap_or}
 use Rattle.codes.specs.declared.Frame.{Frame}
 use Rattle.state.specs.declared.Pw.{Pw}
+use Rattle.state.specs.Fresh.{at_time, stamp_of}
 use Rattle.ranging.specs.declared.apply.Keep.{Keep}
 use Rattle.ranging.specs.declared.apply.Keep.TheVariants.{Nothing, Voltage, Current}
 use Rattle.ranging.specs.declared.apply.Applied.{Applied}
@@ -22,36 +21,30 @@ use Rattle.paths.specs.declared.measuring.Outcome.{Outcome}
 use Rattle.paths.specs.Whole.{with_outcome}
 use Rattle.phase.specs.declared.CalError.{CalError}
 use Rattle.phase.specs.Phase.{cal_number}
+use Rattle.jobs.specs.declared.whole.Started.{Started}
+use Rattle.jobs.specs.declared.whole.Polled.{Polled}
 use Rattle.leaves.specs.declared.jobbed.HostOutcome.{HostOutcome}
+use Rattle.leaves.specs.declared.jobbed.StartedPw.{StartedPw}
+use Rattle.leaves.specs.declared.jobbed.PolledPw.{PolledPw}
 use Rattle.leaves.specs.declared.measured.MeasuredPw.{MeasuredPw}
 use Rattle.leaves.specs.declared.figured.NumberedSum.{NumberedSum}
 use Rattle.leaves.specs.declared.figured.NumberedTally.{NumberedTally}
-use Rattle.leaves.specs.declared.tabled.IuIrPair.{IuIrPair}
 use Rattle.leaves.specs.declared.tabled.NumberedCalibration.{NumberedCalibration}
-
-abbrev pub iu_ir_pair : IuIr → IuIrPair
-iu_ir_pair u = record { iu = u.iu; ir = u.ir }
-
--- the answer of a test by document 01's number
-abbrev pub checked_number : Result Unit Refusal → ℕ
-checked_number (Ok checked) = refusal_number Done
-checked_number (Err refusal) = refusal_number refusal
 
 -- a calibration, or the refusal by document 01's number: no valid word stands then
 abbrev pub numbered : Result Calibration Refusal → NumberedCalibration
-numbered (Ok calibration) = record { refusal = refusal_number Done; calibration = calibration }
-numbered (Err refusal) = record { refusal = refusal_number refusal; calibration = no_calibration }
+numbered answer = record { refusal = told_number answer; calibration = result_unwrap_or answer no_calibration }
 
 -- the answer of an add to a, and of an accounting step from t, by document 01's number: refused, each is as it was, and nothing was added
 abbrev pub numbered_sum : Acc → Result Sum Refusal → NumberedSum
-numbered_sum a answer = record { refusal = added_number answer; acc = added_acc a answer; whole = added_whole answer }
+numbered_sum a answer = record { refusal = told_number answer; acc = added_acc a answer; whole = added_whole answer }
 
 abbrev pub numbered_tally : Tally → Result Counted Refusal → NumberedTally
-numbered_tally t answer = record { refusal = accounted_number answer; tally = accounted_tally t answer; whole = accounted_whole answer }
+numbered_tally t answer = record { refusal = told_number answer; tally = accounted_tally t answer; whole = accounted_whole answer }
 
 -- the source's `keep`: 2 keeps the voltage's parts, 4 the current's, and any other number none
 unfoldable pub keep_of : ℕ → Keep
-keep_of keep = cond (eqb keep 2) Voltage (cond (eqb keep 4) Current Nothing)
+keep_of keep = if eqb keep 2 then Voltage else if eqb keep 4 then Current else Nothing
 
 -- a frame of these codes
 abbrev pub frame_at : ℕ → ℕ → ℤ → ℤ → ℤ → Frame
@@ -59,7 +52,7 @@ frame_at now flags ad1 lpf rms = record { flags = flags; codes = record { ad1 = 
 
 -- a meter after a frame, and after an apply, with the mark to the host
 abbrev pub measured_pw : Pw → Frame → Outcome → MeasuredPw
-measured_pw m f o = record { pw = with_outcome m f o; mark = o.mark; to_values = o.to_values }
+measured_pw m f o = record { pw = with_outcome m f o; mark = stamp_of o.mark; to_values = o.to_values }
 
 abbrev pub applied_pw : Pw → Applied → MeasuredPw
 applied_pw m a =
@@ -83,9 +76,16 @@ applied_pw m a =
         comparator = a.comparator;
         ring = m.ring;
       };
-      mark = record { set = true; at = a.deadline };
+      mark = at_time a.deadline;
       to_values = false;
     }
+
+-- a job's start, and a frame in a job, with the mark to the host
+abbrev pub started_pw : Started → StartedPw
+started_pw s = record { pw = s.pw; mark = stamp_of s.mark }
+
+abbrev pub polled_pw : Polled → PolledPw
+polled_pw p = record { pw = p.pw; mark = stamp_of p.mark; used = p.used }
 
 -- the outcome by its number, with its steps; 0 steps stand where there are none
 unfoldable pub host_outcome : Result ℤ CalError → HostOutcome

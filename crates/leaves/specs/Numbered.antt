@@ -136,8 +136,11 @@ is_corrections x = signed_in w16 131 x.zx 6 && signed_in w16 137 x.zd 6 && eqb (
 abbrev pub is_job_steps : Job → Bool
 is_job_steps x = eqb x.job 149 && eqb x.job_step 150 && eqb x.job_n 151 && eq x.job_a (of_bits binary32 0x4318_0000) && eq x.job_b (of_bits binary32 0x4319_0000) && not x.job_dc && eq (get_or x.job_raw 0 nan) (of_bits binary32 0x431b_0000) && eq (get_or x.job_raw 1 nan) (of_bits binary32 0x431c_0000) && eq (get_or x.job_ref 0 nan) (of_bits binary32 0x431d_0000) && eq (get_or x.job_ref 1 nan) (of_bits binary32 0x431e_0000)
 
+abbrev pub is_job_save : Ranges → Bool
+is_job_save x = eqb x.vr 171 && eqb x.ik 172 && x.v_auto && not x.i_auto
+
 abbrev pub is_job_rest : Job → Bool
-is_job_rest x = signed_in w16 159 x.job_zx 6 && signed_in w16 165 x.job_zd 6 && eqb x.job_save.vr 171 && eqb x.job_save.ik 172 && x.job_save.v_auto && not x.job_save.i_auto && eqb x.job_res 175 && eqb x.job_vr 176 && eqb x.job_last 177 && eqb x.used 178
+is_job_rest x = signed_in w16 159 x.job_zx 6 && signed_in w16 165 x.job_zd 6 && is_job_save x.job_save && eqb x.job_res 175 && eqb x.job_vr 176 && eqb x.job_last 177 && eqb x.used 178
 
 abbrev pub is_comparator : Comparator → Bool
 is_comparator x = eqb x.r20 179 && eqb x.r21 180 && x.f_ok && eqb x.cmp_vr 182

@@ -1,4 +1,5 @@
 //! The leaf functions of module 3. The accumulator's lent add and its watt hours are in libpw.a.
+//! C is handed plain structs of numbers, so `refusal` stands beside a value in `NumberedSum` and `NumberedTally`.
 ghost use Rattle.std.specs.Prelude.{◌≡◌};
 ghost use Rattle.figures.specs.Load.{totals};
 ghost use Rattle.figures.specs.Smoothing.{ema, ema_rel};
@@ -9,7 +10,7 @@ ghost use Rattle.leaves.specs.Host.{numbered_sum, numbered_tally};
 use figures::acc::{Acc, Sum};
 use figures::load::Figures;
 use figures::tally::Tally;
-use refusals::Refusal;
+use refusals::{Refusal, told_number};
 
 /// `struct leaf_added`
 #[derive(Clone, Copy)]
@@ -61,14 +62,15 @@ pub extern "C" fn leaf_ema_rel(a: f32, floor: f32, x: f32, y: f32) -> f32
 fn numbered_sum(a: Acc, answer: Result<Sum, Refusal>) -> NumberedSum
     ensures { result ≡ numbered_sum a answer }
 {
+    let refusal = told_number(&answer);
     match answer {
         Ok(sum) => NumberedSum {
-            refusal: 0,
+            refusal,
             acc: sum.acc,
             whole: sum.gained,
         },
-        Err(refusal) => NumberedSum {
-            refusal: refusals::number(refusal),
+        Err(_) => NumberedSum {
+            refusal,
             acc: a,
             whole: 0,
         },
@@ -106,14 +108,16 @@ pub extern "C" fn leaf_accounting_step(
 ) -> NumberedTally
     ensures { result ≡ numbered_tally t (accounting_step t dt p s active) }
 {
-    match figures::tally::accounting_step(t, dt, p, s, active) {
+    let answer = figures::tally::accounting_step(t, dt, p, s, active);
+    let refusal = told_number(&answer);
+    match answer {
         Ok(counted) => NumberedTally {
-            refusal: 0,
+            refusal,
             tally: counted.tally,
             whole: counted.gained,
         },
-        Err(refusal) => NumberedTally {
-            refusal: refusals::number(refusal),
+        Err(_) => NumberedTally {
+            refusal,
             tally: t,
             whole: 0,
         },

@@ -1,14 +1,14 @@
-//! The leaf functions of module 5: the phase calibration, and the jobs on a whole meter.
+//! The leaf functions of module 5: the phase calibration, and the jobs on a whole meter. C is handed plain numbers: the
+//! kinds of job and the outcome's number in `HostOutcome` go by them.
 ghost use Rattle.std.specs.Prelude.{◌≡◌};
 ghost use Rattle.steps.specs.Place.{kind_of};
 ghost use Rattle.phase.specs.Phase.{cal_outcome, cal_started, cal_accounted};
 ghost use Rattle.jobs.specs.Whole.{job_started, job_turned_away, job_ended, job_polled};
-ghost use Rattle.leaves.specs.Host.{host_outcome};
+ghost use Rattle.leaves.specs.Host.{host_outcome, started_pw, polled_pw};
 
-use codes::Codes;
-use jobs::whole::{Polled, Started};
+use codes::{Codes, Frame};
 use phase::PhaseStep;
-use state::{Job, PhaseCal, Pw};
+use state::{Job, PhaseCal, Pw, Stamp};
 use steps::error::JobError;
 use steps::place::Kind;
 
@@ -18,6 +18,23 @@ use steps::place::Kind;
 pub struct HostOutcome {
     pub number: u8,
     pub steps: i8,
+}
+
+/// `struct leaf_started`
+#[derive(Clone, Copy)]
+#[repr(C)]
+pub struct StartedPw {
+    pub pw: Pw,
+    pub mark: Stamp,
+}
+
+/// `struct leaf_polled`
+#[derive(Clone, Copy)]
+#[repr(C)]
+pub struct PolledPw {
+    pub pw: Pw,
+    pub mark: Stamp,
+    pub used: u8,
 }
 
 #[unsafe(no_mangle)]
@@ -47,10 +64,14 @@ pub extern "C" fn leaf_cal_account(before: PhaseCal, cal_req: bool) -> PhaseStep
 }
 
 #[unsafe(no_mangle)]
-pub extern "C" fn leaf_job_start(pw: Pw, kind: u8, now: u64) -> Started
-    ensures { result ≡ job_started pw (kind_of kind) now }
+pub extern "C" fn leaf_job_start(pw: Pw, kind: u8, now: u64) -> StartedPw
+    ensures { result ≡ started_pw (job_started pw (kind_of kind) now) }
 {
-    jobs::whole::job_start(pw, Kind::from(kind), now)
+    let started = jobs::whole::job_start(pw, Kind::from(kind), now);
+    StartedPw {
+        pw: started.pw,
+        mark: Stamp::from(started.mark),
+    }
 }
 
 #[unsafe(no_mangle)]
@@ -80,9 +101,25 @@ pub extern "C" fn leaf_job_end(pw: Pw, res: u8) -> Pw
 }
 
 #[unsafe(no_mangle)]
-pub extern "C" fn leaf_job_poll(pw: Pw, now: u64, flags: u8, ad1: i32, lpf: i32, rms: i64) -> Polled
-    ensures { result ≡ job_polled pw now flags (record { ad1 = ad1; lpf = lpf; rms = rms }) }
+pub extern "C" fn leaf_job_poll(
+    pw: Pw,
+    now: u64,
+    flags: u8,
+    ad1: i32,
+    lpf: i32,
+    rms: i64,
+) -> PolledPw
+    ensures { result ≡ polled_pw (job_polled pw now flags (record { ad1 = ad1; lpf = lpf; rms = rms })) }
 {
-    let codes = Codes { ad1, lpf, rms };
-    jobs::whole::job_poll(pw, now, flags, codes)
+    let frame = Frame {
+        flags,
+        codes: Codes { ad1, lpf, rms },
+        now,
+    };
+    let polled = jobs::whole::job_poll(pw, frame);
+    PolledPw {
+        pw: polled.pw,
+        mark: Stamp::from(polled.mark),
+        used: polled.used,
+    }
 }

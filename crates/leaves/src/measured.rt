@@ -1,4 +1,5 @@
-//! The leaf functions of module 4, on a whole meter.
+//! The leaf functions of module 4, on a whole meter. A frame's flags, codes and time go one by one, and not as a `Frame`,
+//! since C is handed plain numbers.
 ghost use Rattle.std.specs.Prelude.{◌≡◌};
 ghost use Rattle.state.specs.Fresh.{new_pw};
 ghost use Rattle.paths.specs.Frame.{frame};
@@ -7,6 +8,7 @@ ghost use Rattle.ranging.specs.Apply.{apply};
 ghost use Rattle.leaves.specs.Host.{keep_of, frame_at, measured_pw, applied_pw};
 
 use codes::{Codes, Frame};
+use paths::measuring::{Measuring, Setup};
 use ranging::apply::Keep;
 use state::{Pw, Stamp};
 use tables::calibration::Calibration;
@@ -44,18 +46,20 @@ pub extern "C" fn leaf_frame(
         codes: Codes { ad1, lpf, rms },
         now,
     };
-    let setup = paths::whole::setup_in(pw);
-    let before = paths::whole::measuring_in(pw);
-    let outcome = paths::frame::frame(setup, frame, before);
+    let setup = Setup::from(pw);
+    let before = Measuring::from(pw);
+    let outcome = paths::frame::frame(&setup, frame, before);
     let ring = paths::ring::ring_after(pw.ring, pw.mode, pw.cycle, frame, outcome.ad1_taken);
     MeasuredPw {
         pw: paths::whole::with_measuring(pw, outcome.measuring, ring),
-        mark: outcome.mark,
+        mark: Stamp::from(outcome.mark),
         to_values: outcome.to_values,
     }
 }
 
-// The source's `keep` by its number.
+// The source's `keep` by its number, as C hands it; a function and no `From`, for the comparison alone: in `ranging`
+// nothing knows `keep` by a number.
+#[tactic(auto, unfolding(crate::specs::Host::keep_of))]
 fn keep_of(keep: u8) -> Keep
     ensures { result ≡ keep_of keep }
 {

@@ -2,8 +2,11 @@
 //! finds out that it and the library read and write each value of a meter at the same place. The numbers
 //! are 1, 2, 3 and so on in the order of declaration, 128 as a signed byte being -128; the bools are yes and
 //! no in turn.
+//! The arrays of six, sixteen and 73 whole numbers are compared entry by entry: `==` was tried, and its proof did not
+//! close. Field by field go `Parts`, `Powers`, `Tally`, `Settings` and `PhaseCal`, and what `Job` and `Corrections` have
+//! besides those arrays: these have floats in them and so derive no equality, since a NaN equals nothing, itself neither.
 ghost use Rattle.std.specs.Prelude.{◌≡◌};
-ghost use Rattle.leaves.specs.Numbered.{numbered_meter, is_description, is_calibration, is_mode, is_ranges, is_cycle, is_parts, is_powers, is_tally, is_clock, is_over_t0, is_settings, is_phase_cal, is_corrections, is_job_steps, is_job_rest, is_comparator, is_ring_marks, is_ring_codes, is_ring_times, is_front, is_back, is_numbered};
+ghost use Rattle.leaves.specs.Numbered.{numbered_meter, is_description, is_calibration, is_mode, is_ranges, is_cycle, is_parts, is_powers, is_tally, is_clock, is_over_t0, is_settings, is_phase_cal, is_corrections, is_job_steps, is_job_save, is_job_rest, is_comparator, is_ring_marks, is_ring_codes, is_ring_times, is_front, is_back, is_numbered};
 
 use figures::acc::Acc;
 use figures::tally::Tally;
@@ -81,6 +84,7 @@ const TALLY: Tally = Tally {
     t_int: 110,
 };
 
+// The stamps are written out: a constant's value calls no function, so not `Stamp::at_time`.
 const CLOCK: Clock = Clock {
     run: true,
     t_last: Stamp {
@@ -190,6 +194,7 @@ const NUMBERED: Pw = Pw {
 };
 
 #[unsafe(no_mangle)]
+#[tactic(auto, unfolding(crate::specs::Numbered::numbered_meter))]
 pub extern "C" fn leaf_numbered_meter() -> Pw
     ensures { result ≡ numbered_meter }
 {
@@ -199,61 +204,56 @@ pub extern "C" fn leaf_numbered_meter() -> Pw
 fn is_description(x: Description) -> bool
     ensures { result ≡ is_description x }
 {
-    let mv_div = x.mv_div;
-    let shunt = x.shunt;
-    let r = (mv_div[0] == 1.0) & (mv_div[1] == 2.0) & (shunt[0] == 3.0);
-    r & (shunt[1] == 4.0) & (shunt[2] == 5.0) & (x.over == 6.0) & x.a_auto
+    (x.mv_div == DESCRIPTION.mv_div) & (x.shunt == DESCRIPTION.shunt) & (x.over == 6.0) & x.a_auto
 }
 
 fn is_calibration(x: Calibration) -> bool
     ensures { result ≡ is_calibration x }
 {
-    let words = x.words;
-    let all_words = (words[0] == 8) & (words[1] == 9) & (words[2] == 10);
-    let all_words = all_words & (words[3] == 11) & (words[4] == 12) & (words[5] == 13);
-    let all_words = all_words & (words[6] == 14) & (words[7] == 15) & (words[8] == 16);
-    let all_words = all_words & (words[9] == 17) & (words[10] == 18) & (words[11] == 19);
-    let all_words = all_words & (words[12] == 20) & (words[13] == 21) & (words[14] == 22);
-    let all_words = all_words & (words[15] == 23) & (words[16] == 24) & (words[17] == 25);
-    let all_words = all_words & (words[18] == 26) & (words[19] == 27) & (words[20] == 28);
-    let all_words = all_words & (words[21] == 29) & (words[22] == 30) & (words[23] == 31);
-    let all_words = all_words & (words[24] == 32) & (words[25] == 33) & (words[26] == 34);
-    let all_words = all_words & (words[27] == 35) & (words[28] == 36) & (words[29] == 37);
-    let all_words = all_words & (words[30] == 38) & (words[31] == 39) & (words[32] == 40);
-    let all_words = all_words & (words[33] == 41) & (words[34] == 42) & (words[35] == 43);
-    let all_words = all_words & (words[36] == 44) & (words[37] == 45) & (words[38] == 46);
-    let all_words = all_words & (words[39] == 47) & (words[40] == 48) & (words[41] == 49);
-    let all_words = all_words & (words[42] == 50) & (words[43] == 51) & (words[44] == 52);
-    let all_words = all_words & (words[45] == 53) & (words[46] == 54) & (words[47] == 55);
-    let all_words = all_words & (words[48] == 56) & (words[49] == 57) & (words[50] == 58);
-    let all_words = all_words & (words[51] == 59) & (words[52] == 60) & (words[53] == 61);
-    let all_words = all_words & (words[54] == 62) & (words[55] == 63) & (words[56] == 64);
-    let all_words = all_words & (words[57] == 65) & (words[58] == 66) & (words[59] == 67);
-    let all_words = all_words & (words[60] == 68) & (words[61] == 69) & (words[62] == 70);
-    let all_words = all_words & (words[63] == 71) & (words[64] == 72) & (words[65] == 73);
-    let all_words = all_words & (words[66] == 74) & (words[67] == 75) & (words[68] == 76);
-    let all_words = all_words & (words[69] == 77) & (words[70] == 78) & (words[71] == 79);
-    let all_words = all_words & (words[72] == 80);
+    let all_words = (x.words[0] == 8) & (x.words[1] == 9) & (x.words[2] == 10);
+    let all_words = all_words & (x.words[3] == 11) & (x.words[4] == 12) & (x.words[5] == 13);
+    let all_words = all_words & (x.words[6] == 14) & (x.words[7] == 15) & (x.words[8] == 16);
+    let all_words = all_words & (x.words[9] == 17) & (x.words[10] == 18) & (x.words[11] == 19);
+    let all_words = all_words & (x.words[12] == 20) & (x.words[13] == 21) & (x.words[14] == 22);
+    let all_words = all_words & (x.words[15] == 23) & (x.words[16] == 24) & (x.words[17] == 25);
+    let all_words = all_words & (x.words[18] == 26) & (x.words[19] == 27) & (x.words[20] == 28);
+    let all_words = all_words & (x.words[21] == 29) & (x.words[22] == 30) & (x.words[23] == 31);
+    let all_words = all_words & (x.words[24] == 32) & (x.words[25] == 33) & (x.words[26] == 34);
+    let all_words = all_words & (x.words[27] == 35) & (x.words[28] == 36) & (x.words[29] == 37);
+    let all_words = all_words & (x.words[30] == 38) & (x.words[31] == 39) & (x.words[32] == 40);
+    let all_words = all_words & (x.words[33] == 41) & (x.words[34] == 42) & (x.words[35] == 43);
+    let all_words = all_words & (x.words[36] == 44) & (x.words[37] == 45) & (x.words[38] == 46);
+    let all_words = all_words & (x.words[39] == 47) & (x.words[40] == 48) & (x.words[41] == 49);
+    let all_words = all_words & (x.words[42] == 50) & (x.words[43] == 51) & (x.words[44] == 52);
+    let all_words = all_words & (x.words[45] == 53) & (x.words[46] == 54) & (x.words[47] == 55);
+    let all_words = all_words & (x.words[48] == 56) & (x.words[49] == 57) & (x.words[50] == 58);
+    let all_words = all_words & (x.words[51] == 59) & (x.words[52] == 60) & (x.words[53] == 61);
+    let all_words = all_words & (x.words[54] == 62) & (x.words[55] == 63) & (x.words[56] == 64);
+    let all_words = all_words & (x.words[57] == 65) & (x.words[58] == 66) & (x.words[59] == 67);
+    let all_words = all_words & (x.words[60] == 68) & (x.words[61] == 69) & (x.words[62] == 70);
+    let all_words = all_words & (x.words[63] == 71) & (x.words[64] == 72) & (x.words[65] == 73);
+    let all_words = all_words & (x.words[66] == 74) & (x.words[67] == 75) & (x.words[68] == 76);
+    let all_words = all_words & (x.words[69] == 77) & (x.words[70] == 78) & (x.words[71] == 79);
+    let all_words = all_words & (x.words[72] == 80);
     all_words & !x.valid
 }
 
 fn is_mode(x: Mode) -> bool
     ensures { result ≡ is_mode x }
 {
-    x.on & !x.alt & (x.coup == 84) & x.dc & !x.cal_req
+    x == MODE
 }
 
 fn is_ranges(x: Ranges) -> bool
     ensures { result ≡ is_ranges x }
 {
-    (x.vr == 87) & (x.ik == 88) & x.v_auto & !x.i_auto
+    x == RANGES
 }
 
 fn is_cycle(x: Cycle) -> bool
     ensures { result ≡ is_cycle x }
 {
-    let r = (x.phase == 92) & (x.skip == 93) & (x.skip_y == 94) & (x.taken == 95);
-    r & (x.stat == 96) & (x.seen == 97)
+    x == CYCLE
 }
 
 fn is_parts(x: Parts) -> bool
@@ -276,23 +276,23 @@ fn is_tally(x: Tally) -> bool
     r & (x.va.frac == 109.0) & (x.t_int == 110)
 }
 
+// A stamp is read field by field, here and in `is_over_t0`: what a C host left in `at` counts too where `set` is no.
 fn is_clock(x: Clock) -> bool
     ensures { result ≡ is_clock x }
 {
-    x.run & !x.t_last.set & (x.t_last.at == 113) & (x.t_poll == 114)
+    x == CLOCK
 }
 
 fn is_over_t0(x: Stamp) -> bool
     ensures { result ≡ is_over_t0 x }
 {
-    x.set & (x.at == 116)
+    x == OVER_T0
 }
 
 fn is_settings(x: Settings) -> bool
     ensures { result ≡ is_settings x }
 {
-    let r_path = x.r_path;
-    let r = !x.comp & (r_path[0] == 118.0) & (r_path[1] == 119.0) & (r_path[2] == 120.0);
+    let r = !x.comp & (x.r_path == SETTINGS.r_path);
     r & (x.i_cont == 121.0) & (x.t_lim == 122) & (x.main == 123)
 }
 
@@ -306,99 +306,98 @@ fn is_phase_cal(x: PhaseCal) -> bool
 fn is_corrections(x: Corrections) -> bool
     ensures { result ≡ is_corrections x }
 {
-    let zx = x.zx;
-    let all_zx = (zx[0] == 131) & (zx[1] == 132) & (zx[2] == 133) & (zx[3] == 134);
-    let all_zx = all_zx & (zx[4] == 135) & (zx[5] == 136);
-    let zd = x.zd;
-    let all_zd = (zd[0] == 137) & (zd[1] == 138) & (zd[2] == 139) & (zd[3] == 140);
-    let all_zd = all_zd & (zd[4] == 141) & (zd[5] == 142);
-    let vgain = x.vgain;
-    let r = all_zx & all_zd & (x.zy == 143) & x.zero_ok & (vgain[0] == 145.0);
-    r & (vgain[1] == 146.0) & (vgain[2] == 147.0) & (vgain[3] == 148.0)
+    let all_zx = (x.zx[0] == 131) & (x.zx[1] == 132) & (x.zx[2] == 133) & (x.zx[3] == 134);
+    let all_zx = all_zx & (x.zx[4] == 135) & (x.zx[5] == 136);
+    let all_zd = (x.zd[0] == 137) & (x.zd[1] == 138) & (x.zd[2] == 139) & (x.zd[3] == 140);
+    let all_zd = all_zd & (x.zd[4] == 141) & (x.zd[5] == 142);
+    all_zx & all_zd & (x.zy == 143) & x.zero_ok & (x.vgain == CORRECTIONS.vgain)
 }
 
 fn is_job_steps(x: Job) -> bool
     ensures { result ≡ is_job_steps x }
 {
-    let job_raw = x.job_raw;
-    let job_ref = x.job_ref;
     let r = (x.job == 149) & (x.job_step == 150) & (x.job_n == 151) & (x.job_a == 152.0);
-    let r = r & (x.job_b == 153.0) & !x.job_dc & (job_raw[0] == 155.0);
-    r & (job_raw[1] == 156.0) & (job_ref[0] == 157.0) & (job_ref[1] == 158.0)
+    let r = r & (x.job_b == 153.0) & !x.job_dc;
+    r & (x.job_raw == JOB.job_raw) & (x.job_ref == JOB.job_ref)
+}
+
+fn is_job_save(x: Ranges) -> bool
+    ensures { result ≡ is_job_save x }
+{
+    x == JOB.job_save
 }
 
 fn is_job_rest(x: Job) -> bool
     ensures { result ≡ is_job_rest x }
 {
-    let job_zx = x.job_zx;
-    let all_job_zx = (job_zx[0] == 159) & (job_zx[1] == 160);
-    let all_job_zx = all_job_zx & (job_zx[2] == 161) & (job_zx[3] == 162);
-    let all_job_zx = all_job_zx & (job_zx[4] == 163) & (job_zx[5] == 164);
-    let job_zd = x.job_zd;
-    let all_job_zd = (job_zd[0] == 165) & (job_zd[1] == 166);
-    let all_job_zd = all_job_zd & (job_zd[2] == 167) & (job_zd[3] == 168);
-    let all_job_zd = all_job_zd & (job_zd[4] == 169) & (job_zd[5] == 170);
-    let r = all_job_zx & all_job_zd & (x.job_save.vr == 171) & (x.job_save.ik == 172);
-    let r = r & x.job_save.v_auto & !x.job_save.i_auto & (x.job_res == 175);
-    r & (x.job_vr == 176) & (x.job_last == 177) & (x.used == 178)
+    let all_job_zx = (x.job_zx[0] == 159) & (x.job_zx[1] == 160);
+    let all_job_zx = all_job_zx & (x.job_zx[2] == 161) & (x.job_zx[3] == 162);
+    let all_job_zx = all_job_zx & (x.job_zx[4] == 163) & (x.job_zx[5] == 164);
+    let all_job_zd = (x.job_zd[0] == 165) & (x.job_zd[1] == 166);
+    let all_job_zd = all_job_zd & (x.job_zd[2] == 167) & (x.job_zd[3] == 168);
+    let all_job_zd = all_job_zd & (x.job_zd[4] == 169) & (x.job_zd[5] == 170);
+    let r = all_job_zx & all_job_zd & is_job_save(x.job_save);
+    r & (x.job_res == 175) & (x.job_vr == 176) & (x.job_last == 177) & (x.used == 178)
 }
 
 fn is_comparator(x: Comparator) -> bool
     ensures { result ≡ is_comparator x }
 {
-    (x.r20 == 179) & (x.r21 == 180) & x.f_ok & (x.cmp_vr == 182)
+    x == COMPARATOR
 }
 
 fn is_ring_marks(x: Ring) -> bool
     ensures { result ≡ is_ring_marks x }
 {
-    let stat = x.stat;
-    let all_stat = (stat[0] == 183) & (stat[1] == 184) & (stat[2] == 185);
-    let all_stat = all_stat & (stat[3] == 186) & (stat[4] == 187) & (stat[5] == 188);
-    let all_stat = all_stat & (stat[6] == 189) & (stat[7] == 190) & (stat[8] == 191);
-    let all_stat = all_stat & (stat[9] == 192) & (stat[10] == 193) & (stat[11] == 194);
-    let all_stat = all_stat & (stat[12] == 195) & (stat[13] == 196) & (stat[14] == 197);
-    let all_stat = all_stat & (stat[15] == 198);
-    let disc = x.disc;
-    let all_disc = !disc[0] & disc[1] & !disc[2] & disc[3] & !disc[4] & disc[5];
-    let all_disc = all_disc & !disc[6] & disc[7] & !disc[8] & disc[9] & !disc[10] & disc[11];
-    let all_disc = all_disc & !disc[12] & disc[13] & !disc[14] & disc[15];
+    let all_stat = (x.stat[0] == 183) & (x.stat[1] == 184) & (x.stat[2] == 185);
+    let all_stat = all_stat & (x.stat[3] == 186) & (x.stat[4] == 187) & (x.stat[5] == 188);
+    let all_stat = all_stat & (x.stat[6] == 189) & (x.stat[7] == 190) & (x.stat[8] == 191);
+    let all_stat = all_stat & (x.stat[9] == 192) & (x.stat[10] == 193) & (x.stat[11] == 194);
+    let all_stat = all_stat & (x.stat[12] == 195) & (x.stat[13] == 196) & (x.stat[14] == 197);
+    let all_stat = all_stat & (x.stat[15] == 198);
+    let all_disc = !x.disc[0] & x.disc[1] & !x.disc[2] & x.disc[3] & !x.disc[4] & x.disc[5];
+    let all_disc = all_disc
+        & !x.disc[6]
+        & x.disc[7]
+        & !x.disc[8]
+        & x.disc[9]
+        & !x.disc[10]
+        & x.disc[11];
+    let all_disc = all_disc & !x.disc[12] & x.disc[13] & !x.disc[14] & x.disc[15];
     all_stat & all_disc
 }
 
 fn is_ring_codes(x: Ring) -> bool
     ensures { result ≡ is_ring_codes x }
 {
-    let rms = x.rms;
-    let all_rms = (rms[0] == 215) & (rms[1] == 216) & (rms[2] == 217);
-    let all_rms = all_rms & (rms[3] == 218) & (rms[4] == 219) & (rms[5] == 220);
-    let all_rms = all_rms & (rms[6] == 221) & (rms[7] == 222) & (rms[8] == 223);
-    let all_rms = all_rms & (rms[9] == 224) & (rms[10] == 225) & (rms[11] == 226);
-    let all_rms = all_rms & (rms[12] == 227) & (rms[13] == 228) & (rms[14] == 229);
-    let all_rms = all_rms & (rms[15] == 230);
-    let lpf = x.lpf;
-    let all_lpf = (lpf[0] == 231) & (lpf[1] == 232) & (lpf[2] == 233);
-    let all_lpf = all_lpf & (lpf[3] == 234) & (lpf[4] == 235) & (lpf[5] == 236);
-    let all_lpf = all_lpf & (lpf[6] == 237) & (lpf[7] == 238) & (lpf[8] == 239);
-    let all_lpf = all_lpf & (lpf[9] == 240) & (lpf[10] == 241) & (lpf[11] == 242);
-    let all_lpf = all_lpf & (lpf[12] == 243) & (lpf[13] == 244) & (lpf[14] == 245);
-    let all_lpf = all_lpf & (lpf[15] == 246);
+    let all_rms = (x.rms[0] == 215) & (x.rms[1] == 216) & (x.rms[2] == 217);
+    let all_rms = all_rms & (x.rms[3] == 218) & (x.rms[4] == 219) & (x.rms[5] == 220);
+    let all_rms = all_rms & (x.rms[6] == 221) & (x.rms[7] == 222) & (x.rms[8] == 223);
+    let all_rms = all_rms & (x.rms[9] == 224) & (x.rms[10] == 225) & (x.rms[11] == 226);
+    let all_rms = all_rms & (x.rms[12] == 227) & (x.rms[13] == 228) & (x.rms[14] == 229);
+    let all_rms = all_rms & (x.rms[15] == 230);
+    let all_lpf = (x.lpf[0] == 231) & (x.lpf[1] == 232) & (x.lpf[2] == 233);
+    let all_lpf = all_lpf & (x.lpf[3] == 234) & (x.lpf[4] == 235) & (x.lpf[5] == 236);
+    let all_lpf = all_lpf & (x.lpf[6] == 237) & (x.lpf[7] == 238) & (x.lpf[8] == 239);
+    let all_lpf = all_lpf & (x.lpf[9] == 240) & (x.lpf[10] == 241) & (x.lpf[11] == 242);
+    let all_lpf = all_lpf & (x.lpf[12] == 243) & (x.lpf[13] == 244) & (x.lpf[14] == 245);
+    let all_lpf = all_lpf & (x.lpf[15] == 246);
     all_rms & all_lpf
 }
 
 fn is_ring_times(x: Ring) -> bool
     ensures { result ≡ is_ring_times x }
 {
-    let dt = x.dt;
-    let all_dt = (dt[0] == 247) & (dt[1] == 248) & (dt[2] == 249) & (dt[3] == 250);
-    let all_dt = all_dt & (dt[4] == 251) & (dt[5] == 252) & (dt[6] == 253) & (dt[7] == 254);
-    let all_dt = all_dt & (dt[8] == 255) & (dt[9] == 256) & (dt[10] == 257);
-    let all_dt = all_dt & (dt[11] == 258) & (dt[12] == 259) & (dt[13] == 260);
-    let all_dt = all_dt & (dt[14] == 261) & (dt[15] == 262);
+    let all_dt = (x.dt[0] == 247) & (x.dt[1] == 248) & (x.dt[2] == 249) & (x.dt[3] == 250);
+    let all_dt = all_dt & (x.dt[4] == 251) & (x.dt[5] == 252) & (x.dt[6] == 253) & (x.dt[7] == 254);
+    let all_dt = all_dt & (x.dt[8] == 255) & (x.dt[9] == 256) & (x.dt[10] == 257);
+    let all_dt = all_dt & (x.dt[11] == 258) & (x.dt[12] == 259) & (x.dt[13] == 260);
+    let all_dt = all_dt & (x.dt[14] == 261) & (x.dt[15] == 262);
     all_dt & (x.ring_k == 263) & (x.t_res == 264)
 }
 
 // Values 1 to 114.
+#[tactic(auto, unfolding(crate::specs::Numbered::is_front))]
 fn is_front(pw: Pw) -> bool
     ensures { result ≡ is_front pw }
 {
@@ -424,6 +423,7 @@ fn is_front(pw: Pw) -> bool
 }
 
 // Values 115 to 264.
+#[tactic(auto, unfolding(crate::specs::Numbered::is_back))]
 fn is_back(pw: Pw) -> bool
     ensures { result ≡ is_back pw }
 {
@@ -450,6 +450,7 @@ fn is_back(pw: Pw) -> bool
 }
 
 #[unsafe(no_mangle)]
+#[tactic(auto, unfolding(crate::specs::Numbered::is_numbered))]
 pub extern "C" fn leaf_is_numbered(pw: Pw) -> bool
     ensures { result ≡ is_numbered pw }
 {

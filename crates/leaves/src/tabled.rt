@@ -1,4 +1,5 @@
-//! The leaf functions of module 2.
+//! The leaf functions of module 2. C is handed plain structs of numbers: `refusal` stands beside a value in
+//! `NumberedCalibration`.
 ghost use Rattle.std.specs.Prelude.{◌≡◌};
 ghost use Rattle.std.specs.Float.{nan};
 ghost use Rattle.tables.specs.Bounds.{entry_at};
@@ -8,19 +9,13 @@ ghost use Rattle.tables.specs.Ranges.{iu_ir, cal_index, coup_of, next_coupling};
 ghost use Rattle.tables.specs.Description.{check_description};
 ghost use Rattle.tables.specs.Calibration.{calibration_of, cal, factor, offset};
 ghost use Rattle.tables.specs.Gain.{v_gain_factory, v_gain};
-ghost use Rattle.leaves.specs.Host.{iu_ir_pair, checked_number, numbered};
+ghost use Rattle.refusals.specs.Number.{told_number};
+ghost use Rattle.leaves.specs.Host.{numbered};
 
-use refusals::Refusal;
+use refusals::told_number;
 use tables::calibration::Calibration;
 use tables::description::Description;
-
-/// `struct leaf_iu_ir`
-#[derive(Clone, Copy)]
-#[repr(C)]
-pub struct IuIrPair {
-    pub iu: u8,
-    pub ir: u8,
-}
+use tables::ranges::IuIr;
 
 /// `struct leaf_calibration_answer`
 #[derive(Clone, Copy)]
@@ -37,12 +32,12 @@ pub struct Gains {
     pub vgain: [f32; 4],
 }
 
+/// C's `struct leaf_iu_ir` is `IuIr`.
 #[unsafe(no_mangle)]
-pub extern "C" fn leaf_iu_ir(k: u8) -> IuIrPair
-    ensures { result ≡ iu_ir_pair (iu_ir k) }
+pub extern "C" fn leaf_iu_ir(k: u8) -> IuIr
+    ensures { result ≡ iu_ir k }
 {
-    let u = tables::ranges::iu_ir(k);
-    IuIrPair { iu: u.iu, ir: u.ir }
+    tables::ranges::iu_ir(k)
 }
 
 #[unsafe(no_mangle)]
@@ -68,27 +63,19 @@ pub extern "C" fn leaf_next_coupling(c: u8) -> u8
 
 #[unsafe(no_mangle)]
 pub extern "C" fn leaf_description_refusal(d: Description) -> u8
-    ensures { result ≡ checked_number (check_description d) }
+    ensures { result ≡ told_number (check_description d) }
 {
-    match tables::description::check_description(d) {
-        Ok(()) => refusals::number(Refusal::Done),
-        Err(refusal) => refusals::number(refusal),
-    }
+    told_number(&tables::description::check_description(d))
 }
 
 #[unsafe(no_mangle)]
 pub extern "C" fn leaf_calibration_of(words: &[u32], valid: bool) -> NumberedCalibration
     ensures { result ≡ numbered (calibration_of words.now valid) }
 {
-    match tables::calibration::calibration_of(words, valid) {
-        Ok(calibration) => NumberedCalibration {
-            refusal: refusals::number(Refusal::Done),
-            calibration,
-        },
-        Err(refusal) => NumberedCalibration {
-            refusal: refusals::number(refusal),
-            calibration: Calibration::NONE,
-        },
+    let answer = tables::calibration::calibration_of(words, valid);
+    NumberedCalibration {
+        refusal: told_number(&answer),
+        calibration: answer.unwrap_or(Calibration::NONE),
     }
 }
 
@@ -96,36 +83,35 @@ pub extern "C" fn leaf_calibration_of(words: &[u32], valid: bool) -> NumberedCal
 pub extern "C" fn leaf_cal(c: Calibration, at: u32, default: f32) -> f32
     ensures { result ≡ cal c at default }
 {
-    tables::calibration::cal(c, at, default)
+    c.cal(at, default)
 }
 
 #[unsafe(no_mangle)]
 pub extern "C" fn leaf_factor(c: Calibration, at: u32) -> f32
     ensures { result ≡ factor c at }
 {
-    tables::calibration::factor(c, at)
+    c.factor(at)
 }
 
 #[unsafe(no_mangle)]
 pub extern "C" fn leaf_offset(c: Calibration, at: u32) -> f32
     ensures { result ≡ offset c at }
 {
-    tables::calibration::offset(c, at)
+    c.offset(at)
 }
 
 #[unsafe(no_mangle)]
 pub extern "C" fn leaf_v_gain_factory(c: Calibration, vr: u8) -> f32
     ensures { result ≡ v_gain_factory c vr }
 {
-    tables::calibration::v_gain_factory(c, vr)
+    c.v_gain_factory(vr)
 }
 
 #[unsafe(no_mangle)]
 pub extern "C" fn leaf_v_gain(c: Calibration, g: Gains, vr: u8) -> f32
     ensures { result ≡ v_gain c g.vgain vr }
 {
-    let vgain = g.vgain;
-    tables::calibration::v_gain(c, vgain, vr)
+    c.v_gain(g.vgain, vr)
 }
 
 #[unsafe(no_mangle)]

@@ -61,8 +61,6 @@ grows n i d h k = rw (add-one, pow-suc 10 i) (go (10 ^ i) h)
     go : (p : ℕ) → n < p → n * 10 + d < p * 10
     go p q = omega arith
 
-pub at_most_law : (n i m : ℕ) → n < 10 ^ i → i < m → m ≤ 15 → n < 100000000000000
-at_most_law n i m h l k = go (10 ^ i) h (pow-le-pow_right {n = 10} (lit< tt) {i = i} {j = 14} (omega arith))
-  where
-    go : (p : ℕ) → n < p → p ≤ 100000000000000 → n < 100000000000000
-    go p a b = omega arith
+-- no more than 15 digits
+pub pow_most : (i : ℕ) → i < 15 → 10 ^ i ≤ 100000000000000
+pow_most i h = pow-le-pow_right {n = 10} (lit< tt) {i = i} {j = 14} (omega arith)

@@ -1,5 +1,5 @@
 -- Digits, decimal and hex: document 01's "decimal digits" and "hex digits of either case". Bytes are ASCII.
-use Rattle.std.specs.Prelude.{ℕ, Bool, cond, ◌&&◌, List, [], ◌∷◌, Option, Some, None, nat_le}
+use Rattle.std.specs.Prelude.{ℕ, Bool, if◌then◌else◌, ◌&&◌, List, [], ◌∷◌, Option, Some, None, nat_le}
 use Rattle.std.specs.Char.{digit_value, is_digit}
 use Rattle.std.specs.List.{list_all}
 use Rattle.std.specs.Str.Parse.{digits_value}
@@ -24,10 +24,10 @@ bytes_of [] = []
 
 -- ---- what is read, if every byte is a digit
 abbrev pub digit_in : ℕ → ℕ → Option ℕ
-digit_in base b = cond (is_digit b base) (Some (digit_value b)) None
+digit_in base b = if is_digit b base then Some (digit_value b) else None
 
 abbrev pub number_in : ℕ → List ℕ → Option ℕ
-number_in base l = cond (all_digits base l) (Some (number_of base l)) None
+number_in base l = if all_digits base l then Some (number_of base l) else None
 
 abbrev pub byte_in : ℕ → ℕ → Option ℕ
 byte_in high low = number_in 16 (high ∷ low ∷ [])

@@ -1,6 +1,6 @@
 -- A line of `pwline`, by document 01: "`(on T)`, `(zero T)`, `(poll T F H)`: T of 1 to 15 decimal digits in ms, F two hex digits of either case, H 2 to 64 such digits,
 -- even in number, one space between items"; every other line is "a line of another spelling". Lines and items are lists of ASCII bytes.
-use Rattle.std.specs.Prelude.{ℕ, ◌-◌, ◌%◌, Bool, cond, ◌&&◌, List, [], ◌∷◌, ◌==◌, nat_le, length, take, drop, slice_index, Option, Some, None}
+use Rattle.std.specs.Prelude.{ℕ, ◌-◌, ◌%◌, Bool, if◌then◌else◌, ◌&&◌, List, [], ◌∷◌, ◌==◌, nat_le, length, take, drop, slice_index, Option, Some, None}
 use Rattle.std.specs.List.{before_first, after_first}
 use Rattle.std.specs.Str.{bytes_eq}
 use Rattle.arrayvec.specs.ArrayVec.{ArrayVec}
@@ -44,30 +44,30 @@ is_frame h = within 2 64 (length h) && (length h % 2 == 0) && all_digits 16 h
 
 -- ---- what an item says, if it is one
 abbrev pub time_in : List ℕ → Option ℕ
-time_in t = cond (is_time t) (Some (number_of 10 t)) None
+time_in t = if is_time t then Some (number_of 10 t) else None
 
 abbrev pub flags_in : List ℕ → Option ℕ
-flags_in f = cond (is_flags f) (Some (number_of 16 f)) None
+flags_in f = if is_flags f then Some (number_of 16 f) else None
 
 abbrev pub frame_in : List ℕ → Option (ArrayVec ℕ)
-frame_in h = cond (is_frame h) (Some (record { items = bytes_of h })) None
+frame_in h = if is_frame h then Some (record { items = bytes_of h }) else None
 
 -- ---- lines; "a line of another spelling" is none
 -- an order with a time alone
 unfoldable pub timed_line : (ℕ → Line) → List ℕ → Option Line
-timed_line order t = cond (is_time t) (Some (order (number_of 10 t))) None
+timed_line order t = if is_time t then Some (order (number_of 10 t)) else None
 
 -- a frame: its time, its flags, and as many bytes as it brings
 unfoldable pub poll_line : List ℕ → List ℕ → List ℕ → Option Line
-poll_line t f h = cond (is_time t && is_flags f && is_frame h) (Some (Poll (number_of 10 t) (number_of 16 f) (record { items = bytes_of h }))) None
+poll_line t f h = if is_time t && is_flags f && is_frame h then Some (Poll (number_of 10 t) (number_of 16 f) (record { items = bytes_of h })) else None
 
 -- what stands between the brackets: a word and its items, one space between them
 unfoldable pub form_of : List ℕ → Option Line
 form_of l =
-    cond (bytes_eq (item_of l) on_word) (timed_line On (rest_of l))
-    (cond (bytes_eq (item_of l) zero_word) (timed_line Zero (rest_of l))
-    (cond (bytes_eq (item_of l) poll_word) (poll_line (item_of (rest_of l)) (item_of (rest_of (rest_of l))) (rest_of (rest_of (rest_of l))))
-    None))
+    if bytes_eq (item_of l) on_word then timed_line On (rest_of l)
+    else if bytes_eq (item_of l) zero_word then timed_line Zero (rest_of l)
+    else if bytes_eq (item_of l) poll_word then poll_line (item_of (rest_of l)) (item_of (rest_of (rest_of l))) (rest_of (rest_of (rest_of l)))
+    else None
 
 -- whether a line is bracketed: ( first and ) last
 unfoldable pub bracketed : List ℕ → Bool
@@ -75,4 +75,4 @@ bracketed l = nat_le 2 (length l) && (slice_index l 0 == 40) && (slice_index l (
 
 -- a line of any length
 unfoldable pub line_of : List ℕ → Option Line
-line_of l = cond (bracketed l) (form_of (take (length l - 2) (drop 1 l))) None
+line_of l = if bracketed l then form_of (take (length l - 2) (drop 1 l)) else None

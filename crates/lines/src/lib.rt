@@ -1,14 +1,14 @@
 //! A line of document 01's `pwline`: the order or the frame that it spells, if it spells one.
 #![tactic(auto)]
 
-ghost use Rattle.std.specs.Prelude.{◌≡◌, ◌≤◌, length, true, cond};
+ghost use Rattle.std.specs.Prelude.{◌≡◌, ◌<◌, ◌≤◌, length, IfSome};
 ghost use Rattle.std.specs.List.{position};
 ghost use Rattle.lines.specs.Digits.{digit_in, number_in, byte_in};
 ghost use Rattle.lines.specs.Spelling.{is_space, item_of, rest_of, time_in, flags_in, frame_in, poll_line, form_of, line_of};
 
 use arrayvec::ArrayVec;
 
-/// An order or a frame, as a line spells it. Times are in ms.
+/// An order or a frame, as a line spells it: three forms; a line of none of them is a `None`. Times are in ms.
 #[derive(Debug, Drop)]
 pub enum Line {
     On(u64),
@@ -24,12 +24,14 @@ pub enum Line {
 fn digit(b: u8, base: u32) -> Option<u8>
     requires least { 10 ≤ base }
     requires greatest { base ≤ 16 }
-    ensures { result ≡ digit_in base b }
+    ensures value { result ≡ digit_in base b }
+    ensures below_base { IfSome result (λ d. d < base) }
 {
     Some(char::from(b).to_digit(base)? as u8)
 }
 
-// The number that at most 15 decimal digits spell.
+// The number that at most 15 decimal digits spell: a time, a number that is read, not one that stands for a kind.
+#[tactic(auto, using(crate::proofs::Digits::pow_most, crate::proofs::Digits::a_digit, crate::proofs::Digits::grows, crate::proofs::Digits::read_digit, crate::proofs::Digits::read_other, crate::proofs::Digits::read_end))]
 fn number(digits: &[u8]) -> Option<u64>
     requires { length digits.now ≤ 15 }
     ensures { result ≡ number_in 10 digits.now }
@@ -56,6 +58,7 @@ fn space(s: &[u8]) -> Option<usize>
 }
 
 // The first item, and what stands behind the first space.
+#[tactic(auto, using(crate::proofs::Items::in_front, crate::proofs::Items::behind, crate::proofs::Items::no_front, crate::proofs::Items::no_more))]
 fn split_item(s: &[u8]) -> (&[u8], &[u8])
     ensures item { result.0.now ≡ item_of s.now }
     ensures rest { result.1.now ≡ rest_of s.now }
@@ -89,7 +92,7 @@ fn flags(f: &[u8]) -> Option<u8>
 }
 
 // 2 to 64 hex digits, even in number.
-#[tactic(auto, unfolding(crate::specs::Spelling::is_frame))]
+#[tactic(auto, using(crate::proofs::Pairs::first, crate::proofs::Pairs::read_pair, crate::proofs::Pairs::read_none, crate::proofs::Pairs::read_all), unfolding(crate::specs::Spelling::is_frame))]
 fn frame(h: &[u8]) -> Option<ArrayVec<u8, 32>>
     ensures { result ≡ frame_in h.now }
 {
@@ -123,14 +126,11 @@ fn form(s: &[u8]) -> Option<Line>
     ensures { result ≡ form_of s.now }
 {
     let (word, items) = split_item(s);
-    if word == b"on".as_slice() {
-        Some(Line::On(time(items)?))
-    } else if word == b"zero".as_slice() {
-        Some(Line::Zero(time(items)?))
-    } else if word == b"poll".as_slice() {
-        poll(items)
-    } else {
-        None
+    match word {
+        b"on" => Some(Line::On(time(items)?)),
+        b"zero" => Some(Line::Zero(time(items)?)),
+        b"poll" => poll(items),
+        _ => None,
     }
 }
 

@@ -17,7 +17,6 @@ use Rattle.refusals.specs.Number.{refusal_number}
 use Rattle.codes.specs.declared.Codes.{Codes}
 use Rattle.codes.specs.Frame.{codes_of, decoded}
 use Rattle.state.specs.declared.Pw.{Pw}
-use Rattle.state.specs.declared.Stamp.{Stamp}
 use Rattle.values.specs.declared.power_vals.PowerVals.{PowerVals}
 use Rattle.values.specs.Vals.{pw_vals}
 use Rattle.accounting.specs.Account.{account}
@@ -60,16 +59,16 @@ module _ (m : Pw) (t flags : ℕ) (bytes : List ℕ) where
   abbrev call : Call
   call = Frame t flags bytes
 
-  marked_row : (n : Pw) (mark : Stamp) → FrameRow None (marked n mark)
+  marked_row : (n : Pw) (mark : Option ℕ) → FrameRow None (marked n mark)
   unfolding marked
   marked_row n mark = accepted m call (marked n mark) refl
 
   -- 6, by the accounting of its values, where it has any
-  read_row : (mark : Stamp) (a : Result Pw Refusal) → OnlyFull a → FrameRow (cond (is_err a) (Some refusal.Full) None) (read_to m mark a)
+  read_row : (mark : Option ℕ) (a : Result Pw Refusal) → OnlyFull a → FrameRow (cond (is_err a) (Some refusal.Full) None) (read_to m mark a)
   read_row mark (Ok n) f = accepted m call (accounted_step n mark) refl
   read_row mark (Err r) f = subst (λ (n : Refusal). FrameRow (Some refusal.Full) (refused_with n m)) (sym f) (refused_row m call refusal.Full)
 
-  valued_row : (n : Pw) (mark : Stamp) (v : Option PowerVals) → FrameRow (cond (full_by n t v) (Some refusal.Full) None) (valued_by m n t mark v)
+  valued_row : (n : Pw) (mark : Option ℕ) (v : Option PowerVals) → FrameRow (cond (full_by n t v) (Some refusal.Full) None) (valued_by m n t mark v)
   unfolding read
   valued_row n mark None = marked_row n mark
   valued_row n mark (Some v) =

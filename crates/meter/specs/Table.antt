@@ -1,5 +1,5 @@
 -- Document 01's table "What the meter says back", rows 0 to 6, columns "When" and "Leaves" (7 and 8 are `make`'s), and its order: "otherwise 5, 4, 1, 2, 3, and 6 last". proofs/Table.antt has it of `step`, for every meter and every call: `refused_as`, `leaves` and `told_alone`.
-use Rattle.std.specs.Prelude.{Bool, false, not, ◌&&◌, ◌||◌, cond, ℕ, eqb, length, Option, None, Some, Result, Err}
+use Rattle.std.specs.Prelude.{Bool, false, not, ◌&&◌, ◌||◌, if◌then◌else◌, ℕ, eqb, length, Option, None, Some, Result, Err}
 use Rattle.refusals.specs.declared.Refusal.{Refusal}
 use Rattle.refusals.specs.declared.Refusal.TheVariants as refusal
 use Rattle.codes.specs.Frame.{codes_of}
@@ -66,12 +66,13 @@ full_when m _ = false
 abbrev pub refusal_of : Pw → Call → Option Refusal
 refusal_of m c =
     let a = about c in
-    cond (late_when a.time) (Some refusal.Late)
-    (cond (frame_when a.named) (Some refusal.Frame)
-    (cond (off_when m a.named) (Some refusal.Off)
-    (cond (busy_when m a.named) (Some refusal.Busy)
-    (cond (method_when m a.named) (Some refusal.Method)
-    (cond (full_when m a.named) (Some refusal.Full) None)))))
+    if late_when a.time then Some refusal.Late
+    else if frame_when a.named then Some refusal.Frame
+    else if off_when m a.named then Some refusal.Off
+    else if busy_when m a.named then Some refusal.Busy
+    else if method_when m a.named then Some refusal.Method
+    else if full_when m a.named then Some refusal.Full
+    else None
 
 -- with 3 "a job start sets `job_last` and `JR_METHOD`, nothing else; a phase start changes nothing"
 abbrev pub turned_away : Pw → Named → Pw

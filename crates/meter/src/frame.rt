@@ -1,25 +1,25 @@
 //! The frame call: refusals, then a frame in a job, or one that is measured, and accounted where it gives a
 //! reading.
 ghost use Rattle.std.specs.Prelude.{◌≡◌};
-ghost use Rattle.paths.specs.Whole.{with_measuring};
-ghost use Rattle.accounting.specs.Divided.{with_ledger};
 ghost use Rattle.meter.specs.Frame.{measured, in_job, poll};
-ghost use Rattle.meter.specs.Divided.{changing, read_entry, entry, basis_after, ledger_after, measurement, after_measurement, open_with, open_frame};
+ghost use Rattle.meter.specs.Divided.{read_entry, entry, basis_after, ledger_after, measurement, measured_answer, after_measurement, open_with, open_frame};
 
 use accounting::{Ledger, posted};
-use codes::{Codes, Frame, decode};
+use codes::{Frame, decode};
 use jobs::whole::job_poll;
 use orders::answer::{Answer, Reading, Step, in_time, refused_with};
-use paths::measuring::Measuring;
+use paths::measuring::{Measuring, Setup};
 use paths::ring::ring_after;
-use paths::whole::{measuring_in, setup_in};
+use paths::whole::with_measuring;
 use readouts::readings::reading_vals;
 use refusals::Refusal;
-use state::{Clock, Pw, Ring, Stamp};
+use state::{Clock, Pw};
 use values::methods::{alternating, measured};
-use values::vals::{Basis, Changing};
+use values::vals::Basis;
 
-// What a frame outside a job enters in the ledger, and the reading that it gives.
+// What a frame outside a job enters in the ledger, and the reading that it gives. (`Measurement` names these two again:
+// with an `Entered` in it a meter would be put together from `made.measuring` and `made.entered.ledger`, and its answer
+// from `made.mark` and `made.entered.reading`.)
 #[derive(Clone, Copy)]
 struct Entered {
     ledger: Ledger,
@@ -32,21 +32,21 @@ struct Entered {
 pub struct Measurement {
     pub measuring: Measuring,
     pub ledger: Ledger,
-    pub mark: Stamp,
+    pub mark: Option<u64>,
     pub reading: Option<Reading>,
     pub ad1_taken: bool,
 }
 
-// What the values take of the ledger.
-#[tactic(auto, unfolding(crate::specs::Divided::changing))]
-fn changing_of(ledger: Ledger) -> Changing
-    ensures { result ≡ changing ledger }
-{
-    Changing {
-        tally: ledger.tally,
-        clock: ledger.clock,
-        over_t0: ledger.over_t0,
-        phase_cal: ledger.phase_cal,
+impl Measurement {
+    /// What the frame answers: outside a job none is used.
+    pub fn answer(&self) -> Answer
+        ensures { result ≡ measured_answer self.now }
+    {
+        Answer {
+            mark: self.mark,
+            used: 0,
+            reading: self.reading,
+        }
     }
 }
 
@@ -58,7 +58,7 @@ fn read_entry(basis: Basis, before: Ledger, time: u64) -> Result<Entered, Refusa
     let load = basis.load();
     let active = !alternating(basis.mode);
     let ledger = posted(before, active, basis.settings.i_cont, load, time)?;
-    let vals = basis.values(load, changing_of(ledger));
+    let vals = basis.values(load, ledger.into());
     let readouts = reading_vals(vals);
     Ok(Entered {
         ledger,
@@ -66,7 +66,8 @@ fn read_entry(basis: Basis, before: Ledger, time: u64) -> Result<Entered, Refusa
     })
 }
 
-// A frame that the source takes on to `pw_vals` is read, where that has values.
+// A frame that the source takes on to `pw_vals` is read, where that has values. (`to_values` is tested here, with whether
+// there are values: tested in `measure`, the ledger with nothing entered would be written in both functions.)
 #[tactic(auto, unfolding(crate::specs::Divided::entry))]
 fn entry(to_values: bool, basis: Basis, before: Ledger, time: u64) -> Result<Entered, Refusal>
     ensures { result ≡ entry to_values basis before time }
@@ -81,22 +82,21 @@ fn entry(to_values: bool, basis: Basis, before: Ledger, time: u64) -> Result<Ent
 }
 
 // What the values are worked out from after the path.
-#[tactic(auto, unfolding(crate::specs::Divided::basis_after))]
+#[tactic(auto, unfolding(crate::specs::Divided::basis_after, values::specs::Divided::basis_in))]
 fn basis_after(before: Pw, measuring: Measuring) -> Basis
     ensures { result ≡ basis_after before measuring }
 {
     Basis {
-        mode: before.mode,
         ranges: measuring.ranges,
         parts: measuring.parts,
         seen: measuring.cycle.seen,
         comparator: measuring.comparator,
-        settings: before.settings,
-        over: before.description.over,
+        ..Basis::from(before)
     }
 }
 
-// What the accounting changes, after the path; the frame's time is the last frame's.
+// What the accounting changes, after the path; the frame's time is the last frame's. (No `Ledger::from(Pw)` with an
+// update: it would have this one caller, which gives two of the six fields anew.)
 #[tactic(auto, unfolding(crate::specs::Divided::ledger_after))]
 fn ledger_after(before: Pw, measuring: Measuring, time: u64) -> Ledger
     ensures { result ≡ ledger_after before measuring time }
@@ -114,45 +114,19 @@ fn ledger_after(before: Pw, measuring: Measuring, time: u64) -> Ledger
     }
 }
 
-// The meter with all that the path and the accounting change, and this ring.
-#[tactic(auto, unfolding(paths::specs::Whole::with_measuring))]
-fn with_frame(before: Pw, measuring: Measuring, ledger: Ledger, ring: Ring) -> Pw
-    ensures { result ≡ with_ledger (with_measuring before measuring ring) ledger }
+/// A frame outside a job up to where the meter is put together; `Err(Full)` where the accounting is full.
+#[tactic(auto, unfolding(crate::specs::Divided::measurement))]
+pub fn measure(before: Pw, frame: Frame) -> Result<Measurement, Refusal>
+    ensures { result ≡ measurement before frame }
 {
-    let mut after = before;
-    after.ranges = measuring.ranges;
-    after.barred = measuring.barred;
-    after.cycle = measuring.cycle;
-    after.parts = measuring.parts;
-    after.comparator = measuring.comparator;
-    after.ring = ring;
-    after.tally = ledger.tally;
-    after.clock = ledger.clock;
-    after.powers = ledger.powers;
-    after.over_t0 = ledger.over_t0;
-    after.phase_cal = ledger.phase_cal;
-    after.mode.cal_req = ledger.cal_req;
-    after
-}
-
-/// A frame outside a job up to where the meter is put together. Where the accounting is full, the frame is.
-pub fn measure(before: Pw, time: u64, flags: u8, codes: Codes) -> Result<Measurement, Refusal>
-    ensures { result ≡ measurement before time flags codes }
-{
-    let setup = setup_in(before);
-    let found = measuring_in(before);
-    let frame = Frame {
-        flags,
-        codes,
-        now: time,
-    };
-    let outcome = paths::frame::frame(setup, frame, found);
-    let measuring = outcome.measuring;
-    let basis = basis_after(before, measuring);
-    let unposted = ledger_after(before, measuring, time);
-    let entered = entry(outcome.to_values, basis, unposted, time)?;
+    let setup = Setup::from(before);
+    let found = Measuring::from(before);
+    let outcome = paths::frame::frame(&setup, frame, found);
+    let basis = basis_after(before, outcome.measuring);
+    let unposted = ledger_after(before, outcome.measuring, frame.now);
+    let entered = entry(outcome.to_values, basis, unposted, frame.now)?;
     Ok(Measurement {
-        measuring,
+        measuring: outcome.measuring,
         ledger: entered.ledger,
         mark: outcome.mark,
         reading: entered.reading,
@@ -160,16 +134,12 @@ pub fn measure(before: Pw, time: u64, flags: u8, codes: Codes) -> Result<Measure
     })
 }
 
-/// The meter after it, with what the ring notes.
+/// The meter after it, with what the ring notes. (The ledger's fields one by one: a C host keeps the meter in the source's
+/// groups of fields, so there is no `Ledger` in it.)
 #[tactic(auto, unfolding(crate::specs::Divided::after_measurement))]
-pub fn after_measurement(before: Pw, time: u64, flags: u8, codes: Codes, made: Measurement) -> Pw
-    ensures { result ≡ after_measurement before time flags codes made }
+pub fn after_measurement(before: Pw, frame: Frame, made: Measurement) -> Pw
+    ensures { result ≡ after_measurement before frame made }
 {
-    let frame = Frame {
-        flags,
-        codes,
-        now: time,
-    };
     let ring = ring_after(
         before.ring,
         before.mode,
@@ -177,32 +147,36 @@ pub fn after_measurement(before: Pw, time: u64, flags: u8, codes: Codes, made: M
         frame,
         made.ad1_taken,
     );
-    with_frame(before, made.measuring, made.ledger, ring)
+    let mut after = with_measuring(before, made.measuring, ring);
+    after.tally = made.ledger.tally;
+    after.clock = made.ledger.clock;
+    after.powers = made.ledger.powers;
+    after.over_t0 = made.ledger.over_t0;
+    after.phase_cal = made.ledger.phase_cal;
+    after.mode.cal_req = made.ledger.cal_req;
+    after
 }
 
 // A frame outside a job. Where it is refused the whole frame is undone: the meter is `before`.
-fn outside(before: Pw, time: u64, flags: u8, codes: Codes) -> Step
-    ensures { result ≡ measured before time flags codes }
+#[tactic(auto, using(crate::proofs::Entered::measured_by_law))]
+fn outside(before: Pw, frame: Frame) -> Step
+    ensures { result ≡ measured before frame.now frame.flags frame.codes }
 {
-    match measure(before, time, flags, codes) {
+    match measure(before, frame) {
         Err(refusal) => refused_with(refusal, before),
         Ok(made) => Step {
-            pw: after_measurement(before, time, flags, codes, made),
-            answer: Ok(Answer {
-                mark: made.mark,
-                used: 0,
-                reading: made.reading,
-            }),
+            pw: after_measurement(before, frame, made),
+            answer: Ok(made.answer()),
         },
     }
 }
 
 // A frame in a job: no reading, and the count of ready frames.
 #[tactic(auto, unfolding(crate::specs::Frame::in_job))]
-fn in_job(before: Pw, time: u64, flags: u8, codes: Codes) -> Step
-    ensures { result ≡ in_job before time flags codes }
+fn in_job(before: Pw, frame: Frame) -> Step
+    ensures { result ≡ in_job before frame.now frame.flags frame.codes }
 {
-    let polled = job_poll(before, time, flags, codes);
+    let polled = job_poll(before, frame);
     Step {
         pw: polled.pw,
         answer: Ok(Answer {
@@ -213,34 +187,40 @@ fn in_job(before: Pw, time: u64, flags: u8, codes: Codes) -> Step
     }
 }
 
-/// What becomes of a frame that is not refused at once: it serves a job, or is measured outside of one.
-#[derive(Clone, Copy)]
+/// What becomes of a frame that is not refused at once: it serves a job, or is measured outside of one. (No
+/// `Result`: neither of the two is an error.)
+#[derive(Clone, Copy, Debug, PartialEq, Eq)]
 pub enum Opened {
-    InJob(Codes),
-    Outside(Codes),
+    InJob(Frame),
+    Outside(Frame),
 }
 
 // A frame of the right length, in time.
-fn open_with(on: bool, job: u8, codes: Codes) -> Result<Opened, Refusal>
-    ensures { result ≡ open_with on job codes }
+fn open_with(on: bool, job: u8, frame: Frame) -> Result<Opened, Refusal>
+    ensures { result ≡ open_with on job frame }
 {
     if !on {
         return Err(Refusal::Off);
     }
     if job != 0 {
-        return Ok(Opened::InJob(codes));
+        return Ok(Opened::InJob(frame));
     }
-    Ok(Opened::Outside(codes))
+    Ok(Opened::Outside(frame))
 }
 
-/// A frame of these bytes, which are lent and only read, by whether the meter is on and its job.
+/// A frame of the flags and these bytes, which are lent and only read, by whether the meter is on and its job. (Time,
+/// flags and bytes are three parameters, here and in `poll`: a C host hands them in so, in three arguments of `pw_frame`.)
 #[tactic(auto, unfolding(crate::specs::Divided::open_frame))]
-pub fn open_frame(on: bool, job: u8, time: u64, bytes: &[u8]) -> Result<Opened, Refusal>
-    ensures { result ≡ open_frame on job time bytes.now }
+pub fn open_frame(on: bool, job: u8, time: u64, flags: u8, bytes: &[u8]) -> Result<Opened, Refusal>
+    ensures { result ≡ open_frame on job time flags bytes.now }
 {
     in_time(time)?;
-    let codes = decode(bytes)?;
-    open_with(on, job, codes)
+    let frame = Frame {
+        flags,
+        codes: decode(bytes)?,
+        now: time,
+    };
+    open_with(on, job, frame)
 }
 
 /// A frame of the flags and these bytes, which are lent and only read.
@@ -248,9 +228,9 @@ pub fn open_frame(on: bool, job: u8, time: u64, bytes: &[u8]) -> Result<Opened, 
 pub fn poll(before: Pw, time: u64, flags: u8, bytes: &[u8]) -> Step
     ensures { result ≡ poll before time flags bytes.now }
 {
-    match open_frame(before.mode.on, before.job.job, time, bytes) {
-        Ok(Opened::InJob(codes)) => in_job(before, time, flags, codes),
-        Ok(Opened::Outside(codes)) => outside(before, time, flags, codes),
+    match open_frame(before.mode.on, before.job.job, time, flags, bytes) {
+        Ok(Opened::InJob(frame)) => in_job(before, frame),
+        Ok(Opened::Outside(frame)) => outside(before, frame),
         Err(refusal) => refused_with(refusal, before),
     }
 }

@@ -22,6 +22,7 @@ pub fn plain_meter() -> Pw
 }
 
 /// The meter; or refusal 7 or 8, and none. The description is tested before the words, which are lent and only read.
+/// (Three parameters: a C host hands them in so, in the arguments of `pw_make`.)
 #[tactic(auto, unfolding(crate::specs::Making::make))]
 pub fn make(description: Description, words: &[u32], valid: bool) -> Result<Pw, Refusal>
     ensures { result ≡ make description words.now valid }

@@ -1,13 +1,13 @@
 pub mod Cases
 pub mod Shift
-pub mod Pattern
 pub mod Order
 pub mod NoNumber
+pub mod Methods
+pub mod Pattern
+pub mod Ends
 pub mod Root
 pub mod Round
 pub mod Quotient
 pub mod Whole
-pub mod Narrow
-pub mod NarrowSign
 pub mod Cutting
 pub mod Stated

@@ -1,7 +1,11 @@
--- Where one side is a NaN, so is the sum, the product and the quotient.
+-- The constant NAN of f32 is the NaN; and where one side is a NaN, so is the sum, the product and the quotient.
 use Rattle.std.proofs.Common.{◌≡◌, refl}
-use lib.Ieee.{Float, nan, inf, fin, add, mul, div}
+use lib.Ieee.{Float, nan, inf, fin, binary32, add, mul, div, of_bits}
 use Rattle.numbers.specs.Binary32.{◌+f◌, ◌*f◌, ◌/f◌}
+
+pub nan_is : of_bits binary32 0x7fc0_0000 ≡ nan
+unfolding of_bits
+nan_is = refl
 
 pub plus_nan : (x : Float) → x +f nan ≡ nan
 unfolding add

@@ -1,5 +1,5 @@
 -- `round` at binary32 by bit patterns: the pattern k * 2 ^ 23 + q is the value of q * 2 ^ k smallest values.
-use Rattle.std.proofs.Common.{◌≡◌, ℕ, zero, suc, ◌+◌, ◌-◌, ◌*◌, ◌/◌, ◌%◌, ◌^◌, ◌<◌, ◌≤◌, Bool, false, cond, eqb, leb, pos, sym, refl, ap, ◌∙◌, subst, inl, inr, le_trans, le_of_eq, le_refl, lt_of_lt_of_le, le_of_suc-le-suc, le_of_lt, mul-le-mul_right, zero-lt-suc, mul_assoc, mul_comm, div-lt_iff_lt-mul, le_antisymm, eq-or-lt_of_le, mul-pos, one-mul, pow-suc, lt_of_not-le, le-div_iff_mul-le, zero-add, ne_of_lt, not-le_of_lt, div-one, arith, lit<, lit≤, pow_pos, pow_mono, pow-add, shl_lt, le-ltb, lt-ltb, ne_eqb}
+use Rattle.std.proofs.Common.{◌≡◌, ℕ, zero, suc, ◌+◌, ◌-◌, ◌*◌, ◌/◌, ◌%◌, ◌^◌, ◌<◌, ◌≤◌, Bool, false, cond, eqb, leb, pos, sym, refl, ap, ◌∙◌, subst, inl, inr, le_trans, le_of_eq, le_refl, lt_of_lt_of_le, mul-le-mul_right, zero-lt-suc, mul_assoc, mul_comm, div-lt_iff_lt-mul, le_antisymm, eq-or-lt_of_le, mul-pos, one-mul, pow-suc, lt_of_not-le, le-div_iff_mul-le, ne_of_lt, not-le_of_lt, div-one, arith, lit<, pow_pos, pow_mono, pow-add, shl_lt, lt-ltb, ne_eqb}
 use Prim.Native.Nat.{compare}
 use borrow.Author.Tests.{lt-leb}
 use lib.Count.{count_trailing_zeros, under}
@@ -57,10 +57,6 @@ pub at_field : (f : Format) (x t : ℕ) → suc x < ones f → of_fields f false
 unfolding of_fields
 at_field f x t h = ap (λ (b : Bool). cond b (cond (eqb t 0) (inf false) nan) (odd (prec f) false (hid f + t) x (low f))) (ne_eqb (suc x) (ones f) (ne_of_lt h))
 
-pub no_field : (f : Format) (t : ℕ) → of_fields f false 0 t ≡ odd (prec f) false t 0 (low f)
-unfolding of_fields
-no_field f t = refl
-
 -- ---- q * 2 ^ k smallest values, where q has all 24 digits
 all_digits : (q k : ℕ) → 8388608 ≤ q → q < 16777216 → k < 254 → of_bits binary32 (k * 8388608 + q) ≡ odd 25 false q k 149
 all_digits q k a b h =
@@ -114,10 +110,6 @@ units_is : (q k : ℕ) → q * 2 ^ k < 2 ^ 277 → units binary32 false q k ≡ 
 unfolding units
 units_is q k h = ap (λ (b : Bool). cond b (odd 25 false q k 149) (inf false)) (lt-ltb (q * 2 ^ k) (2 ^ 277) h)
 
-pub units_over : (q k : ℕ) → 2 ^ 277 ≤ q * 2 ^ k → units binary32 false q k ≡ inf false
-unfolding units
-units_over q k h = ap (λ (b : Bool). cond b (odd 25 false q k 149) (inf false)) (le-ltb (q * 2 ^ k) (2 ^ 277) h)
-
 in_range : (q k : ℕ) → q ≤ 16777216 → k ≤ 252 → q * 2 ^ k < 2 ^ 277
 in_range q k a h = lt_of_lt_of_le (shl_lt 25 k (wide q a)) (pow_mono (most k h))
   where
@@ -125,12 +117,6 @@ in_range q k a h = lt_of_lt_of_le (shl_lt 25 k (wide q a)) (pow_mono (most k h))
     wide x p = omega arith
 
     most : (y : ℕ) → y ≤ 252 → 25 + y ≤ 277
-    most y p = omega arith
-
-in_range_last : (q k : ℕ) → q < 16777216 → k ≤ 253 → q * 2 ^ k < 2 ^ 277
-in_range_last q k a h = lt_of_lt_of_le (shl_lt 24 k a) (pow_mono (most k h))
-  where
-    most : (y : ℕ) → y ≤ 253 → 24 + y ≤ 277
     most y p = omega arith
 
 pub units_bits : (q k : ℕ) → 8388608 ≤ q → q ≤ 16777216 → k ≤ 252 → of_bits binary32 (k * 8388608 + q) ≡ units binary32 false q k
@@ -144,30 +130,6 @@ units_bits q k a b h = elim (eq-or-lt_of_le b) [
 
     low_last : (y : ℕ) → y ≤ 252 → y < 254
     low_last y p = omega arith
-
--- with the highest exponent, where 2 ^ 24 is past the largest value
-last_carried : of_bits binary32 (253 * 8388608 + 16777216) ≡ units binary32 false 16777216 253
-unfolding units of_bits
-last_carried = refl
-
-pub units_bits_all : (q k : ℕ) → 8388608 ≤ q → q ≤ 16777216 → k ≤ 253 → of_bits binary32 (k * 8388608 + q) ≡ units binary32 false q k
-units_bits_all q k a b h = elim (eq-or-lt_of_le h) [
-  | inl z ↦ subst (λ (x : ℕ). of_bits binary32 (x * 8388608 + q) ≡ units binary32 false q x) (sym z) (elim (eq-or-lt_of_le b) [
-    | inl e ↦ subst (λ (x : ℕ). of_bits binary32 (253 * 8388608 + x) ≡ units binary32 false x 253) (sym e) last_carried
-    | inr l ↦ all_digits q 253 a l (lit< tt) ∙ sym (units_is q 253 (in_range_last q 253 l (le_refl 253)))
-  ])
-  | inr l ↦ units_bits q k a b (le_of_suc-le-suc l)
-]
-
--- without an exponent: the pattern is the number itself
-pub units_bits_low : (q : ℕ) → q ≤ 8388608 → of_bits binary32 q ≡ units binary32 false q 0
-units_bits_low q h = elim (eq-or-lt_of_le h) [
-  | inl e ↦ subst (λ (x : ℕ). of_bits binary32 x ≡ units binary32 false x 0) (sym e) (units_bits 8388608 0 (le_refl 8388608) (lit≤ tt) (lit≤ tt))
-  | inr l ↦ ap (of_bits binary32) (sym (zero-add q)) ∙ by_fields 0 q (lit< tt) l ∙ no_field binary32 q ∙ sym (odd_more 24 false q 0 149 (more q l)) ∙ sym (units_is q 0 (in_range q 0 (le_of_lt (more q l)) (lit≤ tt)))
-]
-  where
-    more : (x : ℕ) → x < 8388608 → x < 16777216
-    more x p = omega arith
 
 -- ---- `round` of a whole number of 24 + j digits
 pub size_is : (n z : ℕ) → 2 ^ z ≤ n → n < 2 ^ suc z → size n ≡ suc z

@@ -1,7 +1,11 @@
 -- `u64_to_f32`: the leading zeros give the exponent.
-use Rattle.std.proofs.Common.{◌≡◌, ℕ, suc, ◌+◌, ◌-◌, ◌*◌, ◌/◌, ◌%◌, ◌^◌, ◌<◌, ◌≤◌, false, pos, sym, refl, ap, ◌∙◌, subst, le_trans, le_of_eq, lt_of_lt_of_le, le_of_lt, mul-le-mul_right, mod-eq_of_lt, mul_assoc, mul-pos, one-mul, mul-one, div-one, arith, lit<, pow_pos, pow_mono, pow-add, shl_lt}
+use Rattle.std.proofs.Common.{ℤ, negsuc, true, ◌≡◌, ℕ, suc, ◌+◌, ◌-◌, ◌*◌, ◌/◌, ◌%◌, ◌^◌, ◌<◌, ◌≤◌, false, pos, sym, refl, ap, ◌∙◌, subst, le_trans, le_of_eq, lt_of_lt_of_le, le_of_lt, mul-le-mul_right, mod-eq_of_lt, mul_assoc, mul-pos, one-mul, mul-one, div-one, arith, lit<, pow_pos, pow_mono, pow-add, shl_lt}
+use lib.Signed.{lt_z}
+use borrow.Author.Differences.{ints}
+use Rattle.std.specs.Prelude.{unsigned_abs}
+use Rattle.std.proofs.num.Values.{neg-round}
 use lib.Count.{count_leading_zeros, leading_top}
-use lib.Ieee.{binary32, size, units, of_bits, of_int}
+use lib.Ieee.{neg, binary32, size, units, of_bits, of_int}
 use lib.Ieee.Fits.{round_is, core}
 use lib.Ieee.Nearest.{closest, closest_same}
 use Rattle.numbers.specs.Convert.{rounded_quotient}
@@ -10,12 +14,12 @@ use Rattle.numbers.proofs.Round.{size_is, units_bits, kept_hi, of_int_bits}
 use Rattle.numbers.proofs.Quotient.{quotient_is, below}
 
 -- ---- z leading zeros: n has 64 - z digits
-pub record Digits (n z : ℕ) : Type 0 where
+record Digits (n z : ℕ) : Type 0 where
   pub some : z ≤ 63
   pub lo : 2 ^ (63 - z) ≤ n
   pub hi : n < 2 ^ (64 - z)
 
-pub digits : (n : ℕ) → (n ≡ 0 → ⊥) → n < 2 ^ 64 → Digits n (count_leading_zeros 64 n)
+digits : (n : ℕ) → (n ≡ 0 → ⊥) → n < 2 ^ 64 → Digits n (count_leading_zeros 64 n)
 digits n a b =
     let t = leading_top 64 n (positive n a) b in
     let z = count_leading_zeros 64 n in
@@ -108,11 +112,11 @@ module _ (n z : ℕ) (D : Digits n z) (Z : 40 ≤ z) where
       go : (y : ℕ) → y < 16777216 → y < 18446744073709551616
       go y p = omega arith
 
-  pub short_lt : n * 2 ^ s % 18446744073709551616 < 16777216
-  short_lt = subst (λ (x : ℕ). x < 16777216) (sym shifted) to
+  cut_lt : n * 2 ^ s % 18446744073709551616 < 16777216
+  cut_lt = subst (λ (x : ℕ). x < 16777216) (sym shifted) to
 
-  pub short_is : of_bits binary32 ((149 - s) * 8388608 + n * 2 ^ s % 18446744073709551616) ≡ of_int binary32 (pos n)
-  short_is = ap (λ (x : ℕ). of_bits binary32 ((149 - s) * 8388608 + x)) shifted ∙ short_bits n s few from to
+  cut_is : of_bits binary32 ((149 - s) * 8388608 + n * 2 ^ s % 18446744073709551616) ≡ of_int binary32 (pos n)
+  cut_is = ap (λ (x : ℕ). of_bits binary32 ((149 - s) * 8388608 + x)) shifted ∙ short_bits n s few from to
 
 -- ---- more digits: the lowest k are dropped, and the rest rounded
 few_dropped : (z : ℕ) → 40 - z ≤ 63
@@ -137,11 +141,37 @@ module _ (n z r : ℕ) (D : Digits n z) (Z : z < 40) (e : r ≡ rounded_quotient
       go : (y : ℕ) → y < 40 → 64 - y ≡ 24 + (40 - y)
       go y p = omega arith
 
-  pub long_le : r ≤ 16777216
-  long_le = subst (λ (x : ℕ). x ≤ 16777216) (sym is) (kept_hi n (40 - z) lo24 hi24)
+  rest_le : r ≤ 16777216
+  rest_le = subst (λ (x : ℕ). x ≤ 16777216) (sym is) (kept_hi n (40 - z) lo24 hi24)
 
-  pub long_is : of_bits binary32 ((149 + (40 - z)) * 8388608 + r) ≡ of_int binary32 (pos n)
-  long_is = ap (λ (x : ℕ). of_bits binary32 ((149 + (40 - z)) * 8388608 + x)) is ∙ of_int_bits n (40 - z) lo24 hi24 (room z)
+  rest_is : of_bits binary32 ((149 + (40 - z)) * 8388608 + r) ≡ of_int binary32 (pos n)
+  rest_is = ap (λ (x : ℕ). of_bits binary32 ((149 + (40 - z)) * 8388608 + x)) is ∙ of_int_bits n (40 - z) lo24 hi24 (room z)
     where
       room : (y : ℕ) → 40 - y ≤ 103
       room y = omega arith
+
+-- as the code has it
+module _ (n : ℕ) (a : n ≡ 0 → ⊥) (b : n < 2 ^ 64) where
+  abbrev zeros : ℕ
+  zeros = count_leading_zeros 64 n
+
+  pub zeros_le : zeros ≤ 63
+  zeros_le = (digits n a b).some
+
+  pub short_lt : 40 ≤ zeros → n * 2 ^ (zeros - 40) % 18446744073709551616 < 16777216
+  short_lt Z = cut_lt n zeros (digits n a b) Z
+
+  pub short_is : 40 ≤ zeros → of_bits binary32 ((149 - (zeros - 40)) * 8388608 + n * 2 ^ (zeros - 40) % 18446744073709551616) ≡ of_int binary32 (pos n)
+  short_is Z = cut_is n zeros (digits n a b) Z
+
+  pub long_le : (r : ℕ) → zeros < 40 → r ≡ rounded_quotient n (Shifted (40 - zeros)) → r ≤ 16777216
+  long_le r Z e = rest_le n zeros r (digits n a b) Z e
+
+  pub long_is : (r : ℕ) → zeros < 40 → r ≡ rounded_quotient n (Shifted (40 - zeros)) → of_bits binary32 ((149 + (40 - zeros)) * 8388608 + r) ≡ of_int binary32 (pos n)
+  long_is r Z e = rest_is n zeros r (digits n a b) Z e
+
+-- ---- `i64_to_f32`: the size is rounded, and the sign put on after
+pub minus_size : (n : ℤ) → lt_z n (pos 0) ≡ true → of_int binary32 n ≡ neg (of_int binary32 (pos (unsigned_abs n)))
+unfolding of_int
+minus_size (pos n) h = absurd (omega (arith, ints))
+minus_size (negsuc n) h = sym (neg-round binary32 (suc n) 1)

@@ -1,6 +1,6 @@
 -- Binary32 as the source computes with it: its operators, and `is_finite`, `abs`, `max`, `clamp` and `signum` of Rust's `f32`, over every value.
 -- A value is that of std's IEEE 754: `nan` (there is only one, so one NaN equals another), `inf s`, or `fin s m e`, which is m * 2 ^ e; the sign s is true for minus.
-use Rattle.std.specs.Prelude.{Bool, true, false, cond, from_bits, is_nan, Float}
+use Rattle.std.specs.Prelude.{Bool, true, false, if◌then◌else◌, from_bits, is_nan, Float}
 use Rattle.std.specs.Float.{nan, inf, fin, binary32}
 use Rattle.std.specs.Float.Ieee.{add, sub, mul, div, lt, neg}
 
@@ -47,12 +47,12 @@ is_minus (fin s m e) = s
 -- Document 01: "`max` of a NaN and a number is the number; of two zeros of unlike sign it is plus zero (Rust leaves that open)". Otherwise the larger.
 -- Where neither is less, the two are equal, and differ at most in the sign of a zero: b where a has a minus sign, else a.
 unfoldable pub max_of : Float → Float → Float
-max_of a b = cond (is_nan a) b (cond (is_nan b) a (cond (lt a b) b (cond (lt b a) a (cond (is_minus a) b a))))
+max_of a b = if is_nan a then b else if is_nan b then a else if lt a b then b else if lt b a then a else if is_minus a then b else a
 
 -- `clamp`: lo for what is below it, hi for what is above it; a NaN stays. (Rust's panics where not lo <= hi; here lo is then tested first.)
 unfoldable pub clamp_of : Float → Float → Float → Float
-clamp_of x lo hi = cond (lt x lo) lo (cond (lt hi x) hi x)
+clamp_of x lo hi = if lt x lo then lo else if lt hi x then hi else x
 
 -- `signum`: 1.0, or -1.0 where the sign is minus, of a zero too; a NaN stays a NaN
 unfoldable pub signum_of : Float → Float
-signum_of x = cond (is_nan x) x (cond (is_minus x) (neg one_f) one_f)
+signum_of x = if is_nan x then x else if is_minus x then neg one_f else one_f

@@ -1,6 +1,6 @@
 -- Conversions that std's IEEE 754 does not have, and the rounding that they share. Whole numbers to binary32 and binary64 are its `of_int`; cutting to h bits and a sign,
 -- as Rust's `as i64`, `as i32`, `as i16` and `as i8` do (toward zero, held to the range, 0 for a NaN), is its `to_signed h`.
-use Rattle.std.specs.Prelude.{ℕ, ◌*◌, ◌/◌, ◌%◌, cond, from_bits, Float}
+use Rattle.std.specs.Prelude.{ℕ, ◌*◌, ◌/◌, ◌%◌, if◌then◌else◌, from_bits, Float}
 use Prim.Native.Nat.{compare}
 use Rattle.std.specs.Float.{nan, inf, fin, binary32}
 use Rattle.std.specs.Float.Ieee.{lt, up, down, nearest, round}
@@ -22,4 +22,4 @@ half_f = from_bits binary32 0x3f00_0000
 
 -- Document 01: "rounded half away from zero, by adding or taking 0.5 and cutting", before the cut: the source's `if a < 0.0 { a - 0.5 } else { a + 0.5 }`
 unfoldable pub half_away : Float → Float
-half_away a = cond (lt a zero_f) (a -f half_f) (a +f half_f)
+half_away a = if lt a zero_f then a -f half_f else a +f half_f

@@ -6,14 +6,13 @@ use Prim.Native.Nat.{ℕ}
 use borrow.Author.Tests.{eqb-true}
 use lib.Dec.{eqb}
 use Rattle.numbers.proofs.Cases.{either}
-use Rattle.std.specs.Prelude.{None, Ok}
+use Rattle.std.specs.Prelude.{Option, None, Ok}
 use Rattle.tables.specs.Constants.{coup_dc, jr_abort, settle_ms}
 use Rattle.tables.specs.Ranges.{coup_of}
 use Rattle.figures.specs.Tally.{fresh_tally}
 use Rattle.state.specs.declared.Job.{Job}
 use Rattle.state.specs.declared.Pw.{Pw}
 use Rattle.state.specs.declared.Settings.{Settings}
-use Rattle.state.specs.declared.Stamp.{Stamp}
 use Rattle.state.specs.Fresh.{no_time}
 use Rattle.state.proofs.Marks.{MarkAt, of_apply}
 use Rattle.ranging.specs.declared.apply.Keep.{Keep}
@@ -46,7 +45,7 @@ leaves_all m = (refl, refl, refl, refl, refl, refl, refl, refl)
 
 -- an order of the time t on m that is carried out, with the job and the settings that it leaves: done, with no frame counted and no reading; its mark, if any, has "the deadline (the call's time plus the source's settle)"
 pub record Carried (t : ℕ) (m : Pw) (j : Job) (w : Settings) (s : Step) : Type 0 where
-  pub mark : Stamp
+  pub mark : Option ℕ
   pub answer : s.answer ≡ Ok (record { mark = mark; used = 0; reading = None })
   pub due : MarkAt t mark
   pub leaves : Leaves m s.pw
@@ -93,7 +92,7 @@ module _ (t : ℕ) (m : Pw) (j : Job) (w : Settings) where
 
   done_carried : (n : Pw) → Leaves m n → n.job ≡ j → n.settings ≡ w → Carried t m j w (done n)
   unfolding done marked
-  done_carried n l e f = record { mark = no_time; answer = refl; due = inl refl; leaves = l; job = e; settings = f }
+  done_carried n l e f = record { mark = None; answer = refl; due = inl refl; leaves = l; job = e; settings = f }
 
 module _ (m : Pw) (t : ℕ) where
   abbrev Ends : Step → Type 0

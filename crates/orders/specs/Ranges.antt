@@ -1,5 +1,5 @@
 -- The order `ranges`: `pw_set_ranges` of the source. Document 01 of `barred`: "a range order naming the current clears it".
-use Rattle.std.specs.Prelude.{Bool, true, false, not, ◌&&◌, cond, ℕ, eqb, min}
+use Rattle.std.specs.Prelude.{Bool, true, false, not, ◌&&◌, if◌then◌else◌, ℕ, eqb, min}
 use Rattle.refusals.specs.declared.Refusal.TheVariants as refusal
 use Rattle.state.specs.declared.Pw.{Pw}
 use Rattle.state.specs.declared.Ranges.{Ranges}
@@ -8,13 +8,13 @@ use Rattle.ranging.specs.declared.apply.Keep.TheVariants.{Nothing, Voltage, Curr
 use Rattle.orders.specs.declared.answer.Step.{Step}
 use Rattle.orders.specs.declared.ranges.Ask.{Ask}
 use Rattle.orders.specs.declared.ranges.Ask.TheVariants.{Stay, Auto, Fixed}
-use Rattle.orders.specs.declared.ranges.Channel.{Channel}
+use Rattle.orders.specs.declared.ranges.OneRange.{OneRange}
 use Rattle.orders.specs.Answer.{late, refused_with, done}
 use Rattle.orders.specs.Apply.{applied, aborted}
 use Rattle.orders.specs.With.{with_ranges}
 
 -- of one channel: `Some(None) => auto = true, Some(Some(r)) => { auto = false; range = r.min(most) }, None => {}`
-unfoldable pub asked : Ask → ℕ → Channel → Channel
+unfoldable pub asked : Ask → ℕ → OneRange → OneRange
 asked Stay most c = c
 asked Auto most c = record c { auto = true }
 asked (Fixed n) most c = record { range = min n most; auto = false }
@@ -36,15 +36,15 @@ same_ranges found r = eqb r.vr found.vr && eqb r.ik found.ik
 
 -- `keep = if pw.vr == vr { 2 } else if pw.ik == ik { 4 } else { 0 }`
 unfoldable pub keep_of : Ranges → Ranges → Keep
-keep_of found r = cond (eqb r.vr found.vr) Voltage (cond (eqb r.ik found.ik) Current Nothing)
+keep_of found r = if eqb r.vr found.vr then Voltage else if eqb r.ik found.ik then Current else Nothing
 
 -- once no job runs; `if on && (pw.vr, pw.ik) != (vr, ik)` it applies
 unfoldable pub ranges_set : Pw → ℕ → Ask → Ask → Step
 ranges_set m t v i =
     let r = ranges_asked v i m.ranges in
     let after = with_ranges m r (barred_asked i m.barred) in
-    cond (m.mode.on && not (same_ranges m.ranges r)) (applied (keep_of m.ranges r) after t) (done after)
+    if m.mode.on && not (same_ranges m.ranges r) then applied (keep_of m.ranges r) after t else done after
 
 -- a running job is ended first, by any such order
 unfoldable pub set_ranges : Pw → ℕ → Ask → Ask → Step
-set_ranges m t v i = cond (late t) (refused_with refusal.Late m) (ranges_set (aborted m) t v i)
+set_ranges m t v i = if late t then refused_with refusal.Late m else ranges_set (aborted m) t v i

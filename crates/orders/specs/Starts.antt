@@ -1,5 +1,5 @@
 -- The orders zero job and gain job (`pw_zero_start`, `pw_vcal_start`), phase start (`pw_cal_start`), energy reset (`energy_reset`), run and settings. Document 01: "The source's false from `pw_job_start` and `pw_cal_start` is our 1, 2 or 3"; the order is 5, 1, 2, 3.
-use Rattle.std.specs.Prelude.{Bool, not, ◌||◌, cond, ℕ, eqb, Result, Ok, Err}
+use Rattle.std.specs.Prelude.{Bool, not, ◌||◌, if◌then◌else◌, ℕ, eqb, Result, Ok, Err}
 use Rattle.refusals.specs.declared.Refusal.{Refusal}
 use Rattle.refusals.specs.declared.Refusal.TheVariants as refusal
 use Rattle.figures.specs.Tally.{fresh_tally}
@@ -20,26 +20,27 @@ started_step s = marked s.pw s.mark
 -- how a job's start goes: carried out, or the first refusal that holds
 unfoldable pub start_tried : Pw → ℕ → Kind → Result Step Refusal
 start_tried m t k =
-    cond (late t) (Err refusal.Late)
-    (cond (not m.mode.on) (Err refusal.Off)
-    (cond (not (eqb m.job.job 0)) (Err refusal.Busy)
-    (cond m.mode.alt (Err refusal.Method) (Ok (started_step (job_started m k t))))))
+    if late t then Err refusal.Late
+    else if not m.mode.on then Err refusal.Off
+    else if not (eqb m.job.job 0) then Err refusal.Busy
+    else if m.mode.alt then Err refusal.Method
+    else Ok (started_step (job_started m k t))
 
 -- 1: "job start .. while not on"; 2: "job start .. while a job runs"; 3: "job start in alternating method", and that one "sets `job_last` and `JR_METHOD`, nothing else"
 unfoldable pub start_job : Pw → ℕ → Kind → Step
 start_job m t k =
-    cond (late t) (refused_with refusal.Late m)
-    (cond (not m.mode.on) (refused_with refusal.Off m)
-    (cond (not (eqb m.job.job 0)) (refused_with refusal.Busy m)
-    (cond m.mode.alt (refused_with refusal.Method (job_turned_away m k))
-    (started_step (job_started m k t)))))
+    if late t then refused_with refusal.Late m
+    else if not m.mode.on then refused_with refusal.Off m
+    else if not (eqb m.job.job 0) then refused_with refusal.Busy m
+    else if m.mode.alt then refused_with refusal.Method (job_turned_away m k)
+    else started_step (job_started m k t)
 
 -- 1: "phase start while not on"; 3: "phase start in alternating method or with `dc`". It carries no time, and a job does not refuse it
 unfoldable pub phase_start : Pw → Step
 phase_start m =
-    cond (not m.mode.on) (refused_with refusal.Off m)
-    (cond (m.mode.alt || m.mode.dc) (refused_with refusal.Method m)
-    (done (with_phase_cal m (cal_started m.phase_cal))))
+    if not m.mode.on then refused_with refusal.Off m
+    else if m.mode.alt || m.mode.dc then refused_with refusal.Method m
+    else done (with_phase_cal m (cal_started m.phase_cal))
 
 -- `e = ZERO; va = ZERO; t_int = 0; t_last = None`, on or off, in a job too
 unfoldable pub energy_reset : Pw → Step

@@ -1,5 +1,5 @@
 -- The orders on, off, method, coupling and re-apply. Document 01: "On, off and method first end a job with `JR_ABORT`; on sets `dc` from the coupling and applies with nothing kept; off clears only `on`; method applies if on. Re-apply clears `cal_req` and is `pw_apply`." The coupling is `pw_set_coupling` of the source.
-use Rattle.std.specs.Prelude.{Bool, true, false, not, ◌&&◌, ◌||◌, cond, ℕ, eqb}
+use Rattle.std.specs.Prelude.{Bool, true, false, not, ◌&&◌, ◌||◌, if◌then◌else◌, ℕ, eqb}
 use Rattle.std.specs.Bool.{beq}
 use Rattle.refusals.specs.declared.Refusal.TheVariants as refusal
 use Rattle.tables.specs.Constants.{coup_dc, jr_abort}
@@ -32,26 +32,25 @@ unfoldable pub coupling_set : Pw → ℕ → ℕ → Step
 coupling_set m t asked =
     let coup = coup_of asked in
     let dc = eqb coup coup_dc in
-    cond (takes_force dc m.mode m.job.job_res)
-    (applied Nothing (with_mode m (with_coup m.mode coup dc)) t)
-    (done (with_mode m (with_coup m.mode coup m.mode.dc)))
+    if takes_force dc m.mode m.job.job_res then applied Nothing (with_mode m (with_coup m.mode coup dc)) t
+    else done (with_mode m (with_coup m.mode coup m.mode.dc))
 
 -- ---- the orders: number 5 is all that refuses them, and re-apply alone also 2, "re-apply while a job runs"
 
 unfoldable pub on : Pw → ℕ → Step
-on m t = cond (late t) (refused_with refusal.Late m) (switched_on (aborted m) t)
+on m t = if late t then refused_with refusal.Late m else switched_on (aborted m) t
 
 unfoldable pub off : Pw → ℕ → Step
-off m t = cond (late t) (refused_with refusal.Late m) (switched_off (aborted m))
+off m t = if late t then refused_with refusal.Late m else switched_off (aborted m)
 
 unfoldable pub method : Pw → ℕ → Bool → Step
-method m t alt = cond (late t) (refused_with refusal.Late m) (method_set (aborted m) t alt)
+method m t alt = if late t then refused_with refusal.Late m else method_set (aborted m) t alt
 
 unfoldable pub coupling : Pw → ℕ → ℕ → Step
-coupling m t asked = cond (late t) (refused_with refusal.Late m) (coupling_set (aborted m) t asked)
+coupling m t asked = if late t then refused_with refusal.Late m else coupling_set (aborted m) t asked
 
 unfoldable pub reapply : Pw → ℕ → Step
 reapply m t =
-    cond (late t) (refused_with refusal.Late m)
-    (cond (not (eqb m.job.job 0)) (refused_with refusal.Busy m)
-    (applied Nothing (with_mode m (with_cal_req m.mode false)) t))
+    if late t then refused_with refusal.Late m
+    else if not (eqb m.job.job 0) then refused_with refusal.Busy m
+    else applied Nothing (with_mode m (with_cal_req m.mode false)) t

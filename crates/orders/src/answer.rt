@@ -4,7 +4,7 @@ ghost use Rattle.orders.specs.Answer.{late, refused_if, refused_with, told, mark
 
 use readouts::readings::Readouts;
 use refusals::Refusal;
-use state::{Pw, Stamp};
+use state::Pw;
 use values::power_vals::PowerVals;
 
 /// What a frame shows, the source's `Reading`: the readouts, and the values that they are of.
@@ -14,11 +14,11 @@ pub struct Reading {
     pub vals: PowerVals,
 }
 
-/// What a call that is done answers: the mark to the host, with the deadline; how many ready frames the job has
-/// used, 0 for a call that is no frame in a job; and the reading, where there is one.
+/// What a call that is done answers: the mark to the host, where there is one, as its deadline; how many ready frames
+/// the job has used, 0 for a call that is no frame in a job; and the reading, where there is one.
 #[derive(Clone, Copy)]
 pub struct Answer {
-    pub mark: Stamp,
+    pub mark: Option<u64>,
     pub used: u8,
     pub reading: Option<Reading>,
 }
@@ -44,7 +44,7 @@ pub fn in_time(time: u64) -> Result<(), Refusal>
     Ok(())
 }
 
-/// A refused call: its number alone.
+/// A refused call: its refusal alone.
 #[tactic(auto, unfolding(crate::specs::Answer::refused_with))]
 pub fn refused_with(refusal: Refusal, pw: Pw) -> Step
     ensures { result ≡ refused_with refusal pw }
@@ -67,7 +67,7 @@ pub(crate) fn told(outcome: Result<Step, Refusal>, before: Pw) -> Step
 
 /// A call that is done, with this mark; outside a job, and with no reading.
 #[tactic(auto, unfolding(crate::specs::Answer::marked))]
-pub fn marked(pw: Pw, mark: Stamp) -> Step
+pub fn marked(pw: Pw, mark: Option<u64>) -> Step
     ensures { result ≡ marked pw mark }
 {
     let answer = Answer {
@@ -86,5 +86,5 @@ pub fn marked(pw: Pw, mark: Stamp) -> Step
 pub fn done(pw: Pw) -> Step
     ensures { result ≡ done pw }
 {
-    marked(pw, Stamp::NONE)
+    marked(pw, None)
 }

@@ -8,7 +8,7 @@ use crate::answer::{Step, done, in_time, marked, refused_with};
 use jobs::whole::job_end;
 use ranging::apply::{Keep, apply};
 use refusals::Refusal;
-use state::{Pw, Stamp};
+use state::Pw;
 use steps::error::JobError;
 
 /// The source's `pw_apply`: the host writes the row at once, and goes on at the deadline.
@@ -27,13 +27,7 @@ pub(crate) fn applied(keep: Keep, before: Pw, time: u64) -> Step
     let mut after = before;
     after.cycle = anew.cycle;
     after.comparator = anew.comparator;
-    marked(
-        after,
-        Stamp {
-            set: true,
-            at: anew.deadline,
-        },
-    )
+    marked(after, Some(anew.deadline))
 }
 
 /// An apply with nothing kept, while on.

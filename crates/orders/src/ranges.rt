@@ -7,7 +7,8 @@ use crate::apply::{applied, ending_job};
 use ranging::apply::Keep;
 use state::{Pw, Ranges};
 
-/// What is asked of one channel: nothing, that its range be found by itself, or a range.
+/// What is asked of one channel: nothing, that its range be found by itself, or a range. (The source's
+/// `Option<Option<u8>>`, with a name for each of the three.)
 #[derive(Clone, Copy, Debug, PartialEq, Eq)]
 pub enum Ask {
     Stay,
@@ -17,23 +18,23 @@ pub enum Ask {
 
 // The range of one channel, and whether it is found by itself.
 #[derive(Clone, Copy)]
-struct Channel {
+struct OneRange {
     range: u8,
     auto: bool,
 }
 
 // One channel with what is asked of it; `most` is its highest range.
 #[tactic(auto, unfolding(crate::specs::Ranges::asked))]
-fn asked(ask: Ask, most: u8, before: Channel) -> Channel
+fn asked(ask: Ask, most: u8, before: OneRange) -> OneRange
     ensures { result ≡ asked ask most before }
 {
     match ask {
         Ask::Stay => before,
-        Ask::Auto => Channel {
+        Ask::Auto => OneRange {
             auto: true,
             range: before.range,
         },
-        Ask::Fixed(range) => Channel {
+        Ask::Fixed(range) => OneRange {
             auto: false,
             range: range.min(most),
         },
@@ -45,11 +46,11 @@ fn asked(ask: Ask, most: u8, before: Channel) -> Channel
 fn ranges_asked(v: Ask, i: Ask, before: Ranges) -> Ranges
     ensures { result ≡ ranges_asked v i before }
 {
-    let voltage = Channel {
+    let voltage = OneRange {
         range: before.vr,
         auto: before.v_auto,
     };
-    let current = Channel {
+    let current = OneRange {
         range: before.ik,
         auto: before.i_auto,
     };
@@ -63,7 +64,8 @@ fn ranges_asked(v: Ask, i: Ask, before: Ranges) -> Ranges
     }
 }
 
-// What is barred: nothing any longer where the current is named.
+// What is barred: nothing any longer where the current is named. (The 0 says that nothing is barred, as the state keeps
+// that; it is not a number for what was asked.)
 #[tactic(auto, unfolding(crate::specs::Ranges::barred_asked))]
 fn barred_asked(i: Ask, before: u8) -> u8
     ensures { result ≡ barred_asked i before }

@@ -90,7 +90,8 @@ pub fn energy_reset(before: Pw) -> Step
     done(after)
 }
 
-/// Whether energy is counted.
+/// Whether energy is counted. (`switched_off` has the same shape and another field: one function for both would take a
+/// closure that sets the field, and a definition of that closure.)
 #[tactic(auto, unfolding(crate::specs::Starts::set_run))]
 pub fn set_run(before: Pw, run: bool) -> Step
     ensures { result ≡ set_run before run }

@@ -1,4 +1,5 @@
-//! The orders on, off, method, coupling and re-apply.
+//! The orders on, off, method, coupling and re-apply. `method` and `coupling` have one shape, an order that first ends a
+//! job: what they share is `ending_job`, and what is left is what each does.
 ghost use Rattle.std.specs.Prelude.{◌≡◌};
 ghost use Rattle.orders.specs.Answer.{told};
 ghost use Rattle.orders.specs.Switches.{switched_on, switched_off, method_set, takes_force, coupling_set, on, off, method, coupling, reapply};
@@ -22,7 +23,8 @@ fn switched_on(before: Pw, time: u64) -> Step
     applied(Keep::Nothing, after, time)
 }
 
-// The meter is off; nothing else changes.
+// The meter is off; nothing else changes. (`set_run` has the same shape and another field: one function for both would
+// take a closure that sets the field, and a definition of that closure.)
 #[tactic(auto, unfolding(crate::specs::Switches::switched_off))]
 fn switched_off(before: Pw) -> Step
     ensures { result ≡ switched_off before }

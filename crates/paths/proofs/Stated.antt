@@ -8,7 +8,7 @@ use native.Mathlib.Omega.{arith}
 use lib.Dec.{eqb, ltb}
 use lib.IntN.{pos}
 use lib.ListN.{length, get_or, set}
-use Rattle.std.specs.Prelude.{Option, Some, None, IfSome}
+use Rattle.std.specs.Prelude.{Option, Some, None, is_some, IfSome}
 use Rattle.std.specs.Option.{ForSome}
 use lib.Seq.{get_or-set_same, get_or-set_other}
 use Rattle.codes.specs.declared.Frame.{Frame}
@@ -21,11 +21,10 @@ use Rattle.state.specs.declared.PhaseCal.{PhaseCal}
 use Rattle.state.specs.declared.Pw.{Pw}
 use Rattle.state.specs.declared.Ring.{Ring}
 use Rattle.state.specs.declared.Ranges.{Ranges}
-use Rattle.state.specs.declared.Stamp.{Stamp}
 use Rattle.state.specs.Counting.{count_up}
 use Rattle.state.proofs.Marks.{MarkAt, Settle, of_apply, of_voltage}
 use Rattle.takes.specs.declared.take.Measured.{Measured}
-use Rattle.takes.specs.Take.{PhaseKept, take_alt}
+use Rattle.takes.specs.Take.{PhaseKept, take, take_alt}
 use Rattle.numbers.proofs.Cases.{either}
 use Rattle.takes.proofs.Stated.{take_keeps_phase, alt_keeps_phase, dc_keeps_phase}
 use Rattle.ranging.specs.declared.autorange.Channel.{Channel}
@@ -134,7 +133,7 @@ module _ (s : Setup) (f : Frame) (m : Measuring) where
       (λ t e. let n = with_measured m t in either P s.mode.alt (alt_cases s f.now P n refl (λ c r h. refl) refl) (b_cases s f.now P n refl (λ c r h. refl) refl))
 
   -- ---- document 01: "single writes of R34 and R21 give no mark"
-  pub next_phase_unmarked : (b_unranged s.with m).mark.set ≡ false
+  pub next_phase_unmarked : (b_unranged s.with m).mark ≡ None
   unfolding b_unranged goes_on
   next_phase_unmarked = refl
 
@@ -143,8 +142,17 @@ module _ (s : Setup) (f : Frame) (m : Measuring) where
   unfolding method_frame
   down_changes_nothing kept down = rw (kept, down)
 
+  -- in method B, and in the alternating method: what is measured stays as it was
+  pub down_leaves : s.mode.alt ≡ false → ltb 0 m.cycle.skip ≡ false → take s.with m.ranges m.cycle.stat f.codes (measured_in m) ≡ None → (method_frame s f m).measuring ≡ m
+  unfolding method_frame take_by ends
+  down_leaves method kept down = rw (kept, method, down)
+
+  pub alt_down_leaves : s.mode.alt ≡ true → ltb 0 m.cycle.skip ≡ false → take_alt s.with m.ranges m.cycle.phase f.codes (measured_in m) ≡ None → (method_frame s f m).measuring ≡ m
+  unfolding method_frame take_by ends
+  alt_down_leaves method kept down = rw (kept, method, down)
+
   -- ---- the DC path ends where the V range changes: AD1 is not looked at
-  pub v_range_ends : holds_rms_lpf f.flags ≡ true → (dc_v_part s f m).mark.set ≡ true → dc_frame s f m ≡ dc_v_part s f m
+  pub v_range_ends : holds_rms_lpf f.flags ≡ true → is_some (dc_v_part s f m).mark ≡ true → dc_frame s f m ≡ dc_v_part s f m
   unfolding dc_frame
   v_range_ends ready marked = rw (ready, marked)
 
@@ -221,7 +229,7 @@ module _ (R : Ranges → ℕ → PhaseCal → Type 0)
   dc_keeps m h =
       let v = dc_v_part s f m in
       let e = dc_v_keeps m h in
-      either Keeps (holds_rms_lpf f.flags) (either Keeps v.mark.set e (dc_i_keeps v.measuring e)) (dc_i_keeps m h)
+      either Keeps (holds_rms_lpf f.flags) (either Keeps (is_some v.mark) e (dc_i_keeps v.measuring e)) (dc_i_keeps m h)
 
   pub frame_keeps : (m : Measuring) → Held m → Keeps (frame s f m)
   unfolding frame ends
@@ -298,10 +306,7 @@ module _ (s : Setup) (f : Frame) where
 
   ranged_mark : (m : Measuring) (channel : Channel) → Ranges-to s f.now m Marks channel
   unfolding autorange ranged_to
-  ranged_mark m channel r e = inr (settle_ms, of_apply, ap marked (deadline_of channel s.with.description s.mode m.parts (ranging_in m) f.now r e))
-    where
-      marked : ℕ → Stamp
-      marked at = record { set = true; at = at }
+  ranged_mark m channel r e = inr (settle_ms, of_apply, ap (λ (at : ℕ). Some at) (deadline_of channel s.with.description s.mode m.parts (ranging_in m) f.now r e))
 
   switch_mark : (m : Measuring) → Marks (switched f.now m)
   unfolding switched alt_switch
@@ -331,5 +336,5 @@ module _ (s : Setup) (f : Frame) where
   unfolding frame dc_frame ends
   frame_mark m =
       let v = dc_v_part s f m in
-      either Marks s.mode.dc (either Marks (holds_rms_lpf f.flags) (either Marks v.mark.set (dc_v_mark m) (dc_i_mark v.measuring)) (dc_i_mark m))
+      either Marks s.mode.dc (either Marks (holds_rms_lpf f.flags) (either Marks (is_some v.mark) (dc_v_mark m) (dc_i_mark v.measuring)) (dc_i_mark m))
       (either Marks (holds_rms_lpf f.flags) (method_mark m) (inl refl))

@@ -1,5 +1,5 @@
 -- The alternating method after a result was taken: `poll_power` of the source from `taken` on, where `alt` is true.
-use Rattle.std.specs.Prelude.{true, false, cond, ℕ, ◌%◌, ltb, eqb}
+use Rattle.std.specs.Prelude.{true, false, if◌then◌else◌, ℕ, ◌%◌, ltb, eqb, Some}
 use Rattle.tables.specs.Constants.{alt_n}
 use Rattle.state.specs.Counting.{count_up}
 use Rattle.ranging.specs.declared.autorange.Channel.{Channel}
@@ -15,14 +15,14 @@ unfoldable pub switched : ℕ → Measuring → Outcome
 switched now m =
     record {
       measuring = with_cycle m (alt_switch m.cycle now).cycle;
-      mark = record { set = true; at = (alt_switch m.cycle now).deadline };
+      mark = Some (alt_switch m.cycle now).deadline;
       to_values = true;
       ad1_taken = false;
     }
 
 -- an even phase is the voltage's
 abbrev pub channel_in : ℕ → Channel
-channel_in phase = cond (eqb (phase % 2) 0) Voltage Current
+channel_in phase = if eqb (phase % 2) 0 then Voltage else Current
 
 -- the phase has its results
 unfoldable pub alt_phase_done : Setup → ℕ → Measuring → Outcome
@@ -33,4 +33,4 @@ unfoldable pub alt_next : Setup → ℕ → Measuring → Outcome
 alt_next s now m =
     let n = count_up m.cycle.taken in
     let counted = with_cycle m (with_taken m.cycle n) in
-    cond (ltb n alt_n) (goes_on counted) (alt_phase_done s now counted)
+    if ltb n alt_n then goes_on counted else alt_phase_done s now counted

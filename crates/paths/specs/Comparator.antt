@@ -1,5 +1,5 @@
 -- `pw_cmp_select` of the source: the frequency counter's source and window. The counter itself is left out.
-use Rattle.std.specs.Prelude.{true, false, cond, ℕ, Float, Option, Some, None}
+use Rattle.std.specs.Prelude.{true, false, if◌then◌else◌, ℕ, Float, Option, Some, None}
 use Rattle.std.specs.Float.{nan, binary32}
 use Rattle.std.specs.Float.Ieee.{le, of_bits}
 use Rattle.numbers.specs.Binary32.{◌*f◌, ◌/f◌}
@@ -31,16 +31,15 @@ abbrev pub with_frequency : ℕ → ℕ → Comparator → Comparator
 with_frequency r20 r21 c = record { r20 = r20; r21 = r21; f_ok = true; cmp_vr = c.cmp_vr }
 
 abbrev pub no_frequency : Comparator → Comparator
-no_frequency c = record { r20 = c.r20; r21 = c.r21; f_ok = false; cmp_vr = c.cmp_vr }
+no_frequency c = record c { f_ok = false }
 
 -- the V tap with its window; else the current on PB4 where its AC part is at least 25 mV; else no frequency
 unfoldable pub chosen : Option ℕ → Float → Comparator → Comparator
 chosen (Some w) op c = with_frequency r20_sense w c
-chosen None op c = cond (le least_op op) (with_frequency r20_pb4 r21_default c) (no_frequency c)
+chosen None op c = if le least_op op then with_frequency r20_pb4 r21_default c else no_frequency c
 
 -- only once voltage and current are measured
 unfoldable pub cmp_select : Instrument → Ranges → ℕ → Parts → Comparator → Comparator
 cmp_select w r seen p c =
-    cond (both_seen seen)
-    (chosen (cmp_window (p.v_dc /f tap_scale w r.vr) (p.v_ac /f tap_scale w r.vr)) (op_volts w.description r.ik p.i_ac) c)
-    c
+    if both_seen seen then chosen (cmp_window (p.v_dc /f tap_scale w r.vr) (p.v_ac /f tap_scale w r.vr)) (op_volts w.description r.ik p.i_ac) c
+    else c

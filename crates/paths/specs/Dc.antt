@@ -1,5 +1,5 @@
 -- A frame in DC coupling: `pw_poll_dc` of the source. Document 01: "The DC path takes AD1 from the same frame, where the source reads the chip again."
-use Rattle.std.specs.Prelude.{cond, ◌-◌, ltb}
+use Rattle.std.specs.Prelude.{if◌then◌else◌, ◌-◌, ltb, is_some}
 use Rattle.codes.specs.declared.Codes.{Codes}
 use Rattle.codes.specs.declared.Frame.{Frame}
 use Rattle.codes.specs.Flags.{holds_ad1, holds_rms_lpf}
@@ -23,7 +23,7 @@ dc_v_result s f m =
 -- dropped while `skip_y > 0`
 unfoldable pub dc_v_part : Setup → Frame → Measuring → Outcome
 dc_v_part s f m =
-    cond (ltb 0 m.cycle.skip_y) (ends (with_cycle m (with_skip_y m.cycle (m.cycle.skip_y - 1)))) (dc_v_result s f m)
+    if ltb 0 m.cycle.skip_y then ends (with_cycle m (with_skip_y m.cycle (m.cycle.skip_y - 1))) else dc_v_result s f m
 
 -- the current is taken
 abbrev pub dc_i_after : Instrument → Codes → Measuring → Measuring
@@ -37,14 +37,13 @@ dc_i_result s f m =
 -- where AD1 is ready; one that is taken is marked so, and the ring notes it, a dropped one is not
 unfoldable pub dc_i_part : Setup → Frame → Measuring → Outcome
 dc_i_part s f m =
-    cond (holds_ad1 f.flags)
-    (cond (ltb 0 m.cycle.skip) (drops m) (with_ad1 (dc_i_result s f m)))
-    (ends m)
+    if holds_ad1 f.flags then (if ltb 0 m.cycle.skip then drops m else with_ad1 (dc_i_result s f m))
+    else ends m
 
 -- a V range that changed ends the frame, its AD1 unread
 abbrev pub dc_after_v : Setup → Frame → Outcome → Outcome
-dc_after_v s f v = cond v.mark.set v (dc_i_part s f v.measuring)
+dc_after_v s f v = if is_some v.mark then v else dc_i_part s f v.measuring
 
 unfoldable pub dc_frame : Setup → Frame → Measuring → Outcome
 dc_frame s f m =
-    cond (holds_rms_lpf f.flags) (dc_after_v s f (dc_v_part s f m)) (dc_i_part s f m)
+    if holds_rms_lpf f.flags then dc_after_v s f (dc_v_part s f m) else dc_i_part s f m

@@ -2,7 +2,6 @@
 use Rattle.std.specs.Prelude.{true, false, ℕ, ◌-◌, Option, Some, None}
 use Rattle.state.specs.declared.Comparator.{Comparator}
 use Rattle.state.specs.declared.Cycle.{Cycle}
-use Rattle.state.specs.Fresh.{no_time}
 use Rattle.takes.specs.declared.take.Measured.{Measured}
 use Rattle.ranging.specs.declared.autorange.Ranging.{Ranging}
 use Rattle.ranging.specs.declared.autorange.Ranged.{Ranged}
@@ -14,33 +13,33 @@ use Rattle.paths.specs.declared.measuring.Outcome.{Outcome}
 
 -- the frame ends here: no mark, and no values
 unfoldable pub ends : Measuring → Outcome
-ends m = record { measuring = m; mark = no_time; to_values = false; ad1_taken = false }
+ends m = record { measuring = m; mark = None; to_values = false; ad1_taken = false }
 
 -- the source goes on to `pw_vals`, and where that answers values to `pw_account`
 unfoldable pub goes_on : Measuring → Outcome
-goes_on m = record { measuring = m; mark = no_time; to_values = true; ad1_taken = false }
+goes_on m = record { measuring = m; mark = None; to_values = true; ad1_taken = false }
 
 -- ---- one field replaced
 
 abbrev pub with_seen : Cycle → ℕ → Cycle
-with_seen c seen = record { phase = c.phase; skip = c.skip; skip_y = c.skip_y; taken = c.taken; stat = c.stat; seen = seen }
+with_seen c seen = record c { seen = seen }
 
 abbrev pub with_skip : Cycle → ℕ → Cycle
-with_skip c skip = record { phase = c.phase; skip = skip; skip_y = c.skip_y; taken = c.taken; stat = c.stat; seen = c.seen }
+with_skip c skip = record c { skip = skip }
 
 abbrev pub with_skip_y : Cycle → ℕ → Cycle
-with_skip_y c skipY = record { phase = c.phase; skip = c.skip; skip_y = skipY; taken = c.taken; stat = c.stat; seen = c.seen }
+with_skip_y c skipY = record c { skip_y = skipY }
 
 abbrev pub with_taken : Cycle → ℕ → Cycle
-with_taken c taken = record { phase = c.phase; skip = c.skip; skip_y = c.skip_y; taken = taken; stat = c.stat; seen = c.seen }
+with_taken c taken = record c { taken = taken }
 
 abbrev pub with_cycle : Measuring → Cycle → Measuring
 with_cycle m c =
-    record { ranges = m.ranges; barred = m.barred; cycle = c; parts = m.parts; phase_cal = m.phase_cal; comparator = m.comparator }
+    record m { cycle = c }
 
 abbrev pub with_comparator : Measuring → Comparator → Measuring
 with_comparator m k =
-    record { ranges = m.ranges; barred = m.barred; cycle = m.cycle; parts = m.parts; phase_cal = m.phase_cal; comparator = k }
+    record m { comparator = k }
 
 -- a dropped result: the frame ends, with one less to drop
 unfoldable pub drops : Measuring → Outcome
@@ -48,7 +47,7 @@ drops m = ends (with_cycle m (with_skip m.cycle (m.cycle.skip - 1)))
 
 -- an AD1 result was taken
 abbrev pub with_ad1 : Outcome → Outcome
-with_ad1 o = record { measuring = o.measuring; mark = o.mark; to_values = o.to_values; ad1_taken = true }
+with_ad1 o = record o { ad1_taken = true }
 
 -- ---- what the takes may change
 
@@ -57,13 +56,10 @@ measured_in m = record { parts = m.parts; seen = m.cycle.seen; phase_cal = m.pha
 
 unfoldable pub with_measured : Measuring → Measured → Measuring
 with_measured m t =
-    record {
-      ranges = m.ranges;
-      barred = m.barred;
+    record m {
       cycle = with_seen m.cycle t.seen;
       parts = t.parts;
       phase_cal = t.phase_cal;
-      comparator = m.comparator;
     }
 
 -- ---- what an autorange may change
@@ -87,7 +83,7 @@ ranged_to m r =
         phase_cal = m.phase_cal;
         comparator = r.ranging.comparator;
       };
-      mark = record { set = true; at = r.deadline };
+      mark = Some r.deadline;
       to_values = false;
       ad1_taken = false;
     }

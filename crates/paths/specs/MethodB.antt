@@ -1,5 +1,5 @@
 -- Method B after a result was taken: `poll_power` of the source from `st` on, where `alt` is false.
-use Rattle.std.specs.Prelude.{cond, ℕ, eqb}
+use Rattle.std.specs.Prelude.{if◌then◌else◌, ℕ, eqb}
 use Rattle.tables.specs.Constants.{r34_xy, r34_yy}
 use Rattle.takes.specs.declared.scales.Instrument.{Instrument}
 use Rattle.ranging.specs.declared.autorange.Channel.{Channel}
@@ -20,10 +20,10 @@ b_unranged w m = goes_on (advanced (with_comparator m (cmp_select w m.ranges m.c
 
 -- `v = st == R34_YY`
 abbrev pub channel_of : ℕ → Channel
-channel_of stat = cond (eqb stat r34_yy) Voltage Current
+channel_of stat = if eqb stat r34_yy then Voltage else Current
 
 -- XY goes straight to the next phase, XX and YY may change a range first
 unfoldable pub b_next : Setup → ℕ → Measuring → Outcome
 b_next s now m =
-    cond (eqb m.cycle.stat r34_xy) (goes_on (advanced m))
-    (unless_ranged m (b_unranged s.with m) (autorange s (channel_of m.cycle.stat) now m))
+    if eqb m.cycle.stat r34_xy then goes_on (advanced m)
+    else unless_ranged m (b_unranged s.with m) (autorange s (channel_of m.cycle.stat) now m)

@@ -1,5 +1,5 @@
 -- The ring. Document 01, of a result that is turned down: "The ring notes it all the same: sixteen latest conversions are kept with the meter, by `ring_k` modulo 16."
-use Rattle.std.specs.Prelude.{Bool, false, cond, ℕ, min, ◌+◌, ◌%◌, ◌^◌, ltb, ℤ, pos, set}
+use Rattle.std.specs.Prelude.{Bool, false, if◌then◌else◌, ℕ, min, ◌+◌, ◌%◌, ◌^◌, ltb, ℤ, pos, set}
 use Rattle.codes.specs.declared.Codes.{Codes}
 use Rattle.codes.specs.declared.Frame.{Frame}
 use Rattle.codes.specs.Flags.{holds_rms_lpf}
@@ -33,7 +33,7 @@ noted r raw =
     }
 
 abbrev pub at_time : ℕ → Ring → Ring
-at_time now r = record { stat = r.stat; disc = r.disc; rms = r.rms; lpf = r.lpf; dt = r.dt; ring_k = r.ring_k; t_res = now }
+at_time now r = record r { t_res = now }
 
 -- a result of RMS and LPF: `Raw { stat, disc, rms, lpf, dt }`, and `t_res = now`, the time of the last such result
 unfoldable pub note_result : Ring → ℕ → ℕ → Bool → Codes → Ring
@@ -46,14 +46,14 @@ note_current r ad1 = noted r (record { stat = 4; disc = false; rms = pos 0; lpf 
 
 -- which result it is: `if alt { 1 + (phase & 1) } else { stat }`; in DC coupling `stat: 3`
 unfoldable pub result_stat : Mode → Cycle → ℕ
-result_stat mode c = cond mode.dc 3 (cond mode.alt (1 + c.phase % 2) c.stat)
+result_stat mode c = if mode.dc then 3 else if mode.alt then 1 + c.phase % 2 else c.stat
 
 -- `disc = skip > 0`; in DC coupling `disc: skip_y > 0`
 unfoldable pub is_dropped : Mode → Cycle → Bool
-is_dropped mode c = cond mode.dc (ltb 0 c.skip_y) (ltb 0 c.skip)
+is_dropped mode c = if mode.dc then ltb 0 c.skip_y else ltb 0 c.skip
 
 -- the ring after a frame that came upon the cycle c: a result of RMS and LPF is noted before it is looked at, one of AD1 once it is to be taken
 unfoldable pub ring_after : Ring → Mode → Cycle → Frame → Bool → Ring
 ring_after r mode c f ad1Taken =
-    let first = cond (holds_rms_lpf f.flags) (note_result r f.now (result_stat mode c) (is_dropped mode c) f.codes) r in
-    cond ad1Taken (note_current first f.codes.ad1) first
+    let first = (if holds_rms_lpf f.flags then note_result r f.now (result_stat mode c) (is_dropped mode c) f.codes else r) in
+    if ad1Taken then note_current first f.codes.ad1 else first

@@ -28,22 +28,12 @@ measuring_in m =
 -- all else stays: description and words, mode, powers, tally, clock, `over_t0`, settings, corrections and job. `t_poll` is set by the frame call, after this (meter/specs/Frame.antt)
 unfoldable pub with_measuring : Pw → Measuring → Ring → Pw
 with_measuring m x r =
-    record {
-      description = m.description;
-      calibration = m.calibration;
-      mode = m.mode;
+    record m {
       ranges = x.ranges;
       barred = x.barred;
       cycle = x.cycle;
       parts = x.parts;
-      powers = m.powers;
-      tally = m.tally;
-      clock = m.clock;
-      over_t0 = m.over_t0;
-      settings = m.settings;
       phase_cal = x.phase_cal;
-      corrections = m.corrections;
-      job = m.job;
       comparator = x.comparator;
       ring = r;
     }

@@ -5,7 +5,7 @@ ghost use Rattle.paths.specs.Alternating.{switched, alt_phase_done, alt_next};
 use crate::measuring::{Measuring, Outcome, Setup};
 use ranging::autorange::Channel;
 use ranging::cycle::alt_switch;
-use state::{Stamp, count_up};
+use state::count_up;
 use tables::constants::ALT_N;
 
 // No range changed: the other row comes, with a mark, and the frame goes on to the values all the same.
@@ -19,10 +19,7 @@ fn switched(now: u64, before: Measuring) -> Outcome
             cycle: next.cycle,
             ..before
         },
-        mark: Stamp {
-            set: true,
-            at: next.deadline,
-        },
+        mark: Some(next.deadline),
         to_values: true,
         ad1_taken: false,
     }
@@ -30,21 +27,24 @@ fn switched(now: u64, before: Measuring) -> Outcome
 
 // The phase has its results: a range changes, or the other row comes.
 #[tactic(auto, unfolding(crate::specs::Alternating::alt_phase_done))]
-fn alt_phase_done(setup: Setup, now: u64, before: Measuring) -> Outcome
-    ensures { result ≡ alt_phase_done setup now before }
+fn alt_phase_done(setup: &Setup, now: u64, before: Measuring) -> Outcome
+    ensures { result ≡ alt_phase_done setup.now now before }
 {
     let channel = if before.cycle.phase % 2 == 0 {
         Channel::Voltage
     } else {
         Channel::Current
     };
-    before.unless_ranged(setup, channel, now, switched(now, before))
+    match before.autorange(setup, channel, now) {
+        Some(ranged) => before.ranged_to(ranged),
+        None => switched(now, before),
+    }
 }
 
 /// One result more in the phase.
 #[tactic(auto, unfolding(crate::specs::Alternating::alt_next))]
-pub(crate) fn alt_next(setup: Setup, now: u64, before: Measuring) -> Outcome
-    ensures { result ≡ alt_next setup now before }
+pub(crate) fn alt_next(setup: &Setup, now: u64, before: Measuring) -> Outcome
+    ensures { result ≡ alt_next setup.now now before }
 {
     let mut after = before;
     after.cycle.taken = count_up(before.cycle.taken);

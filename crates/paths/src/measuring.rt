@@ -1,15 +1,18 @@
 //! What the path of a frame outside a job reads, what it may change, and what it answers.
 ghost use Rattle.std.specs.Prelude.{◌≡◌};
-ghost use Rattle.paths.specs.Measuring.{ends, goes_on, drops, measured_in, with_measured, ranging_in, ranged_to, unless_ranged, autorange};
+ghost use Rattle.paths.specs.Measuring.{ends, goes_on, drops, measured_in, with_measured, ranging_in, ranged_to, autorange};
 
 use ranging::autorange::{Channel, Ranged, Ranging};
-use state::{Comparator, Cycle, Mode, Parts, PhaseCal, Ranges, Stamp};
+use state::{Comparator, Cycle, Mode, Parts, PhaseCal, Ranges};
 use takes::scales::Instrument;
 use takes::take::Measured;
 
+// The setup, the frame or its time, and the measuring go one by one from function to function: the setup is what a
+// path reads, the frame what came, and the measuring is another one after each step of the way, so that a struct of
+// the three would be made anew at each step for the one that changed.
+
 /// What a path reads and never changes: what readings are worked out with, and what the meter does.
 #[derive(Clone, Copy)]
-#[repr(C)]
 pub struct Setup {
     pub with: Instrument,
     pub mode: Mode,
@@ -18,7 +21,6 @@ pub struct Setup {
 /// The meter's fields that the path of a frame outside a job may change, but for the ring. What the accounting
 /// changes is not a path's.
 #[derive(Clone, Copy)]
-#[repr(C)]
 pub struct Measuring {
     pub ranges: Ranges,
     pub barred: u8,
@@ -28,19 +30,22 @@ pub struct Measuring {
     pub comparator: Comparator,
 }
 
-/// What stands after the path, and the mark to the host. Whether the source goes on to `pw_vals`, which may still
-/// answer none (not all of `seen` marked), and then nothing is accounted. Whether an AD1 result was taken, which the
-/// ring notes.
+/// What stands after the path, and the mark to the host, where there is one: its deadline. Whether the source goes on
+/// to `pw_vals`, which may still answer none (not all of `seen` marked), and then nothing is accounted. Whether an AD1
+/// result was taken, which the ring notes.
 #[derive(Clone, Copy)]
-#[repr(C)]
 pub struct Outcome {
     pub measuring: Measuring,
-    pub mark: Stamp,
+    pub mark: Option<u64>,
     pub to_values: bool,
     pub ad1_taken: bool,
 }
 
+// Fields are copied by name from one record into another: a C host keeps the meter in the source's groups of fields,
+// and each function here is handed those alone that it may change.
 impl Measuring {
+    // `ends` and `goes_on` are two makers, and not one that takes `to_values`: a bare true or false would not say at a
+    // call what becomes of the frame.
     /// The frame ends: no mark, no values.
     #[tactic(auto, unfolding(crate::specs::Measuring::ends))]
     pub(crate) fn ends(self) -> Outcome
@@ -48,7 +53,7 @@ impl Measuring {
     {
         Outcome {
             measuring: self,
-            mark: Stamp::NONE,
+            mark: None,
             to_values: false,
             ad1_taken: false,
         }
@@ -61,7 +66,7 @@ impl Measuring {
     {
         Outcome {
             measuring: self,
-            mark: Stamp::NONE,
+            mark: None,
             to_values: true,
             ad1_taken: false,
         }
@@ -79,8 +84,8 @@ impl Measuring {
 
     /// What the takes may change.
     #[tactic(auto, unfolding(crate::specs::Measuring::measured_in))]
-    pub(crate) fn measured(self) -> Measured
-        ensures { result ≡ measured_in self }
+    pub(crate) fn measured(&self) -> Measured
+        ensures { result ≡ measured_in self.now }
     {
         Measured {
             parts: self.parts,
@@ -104,10 +109,10 @@ impl Measuring {
         }
     }
 
-    // What an autorange may change.
+    // What an autorange may change. (`Changing::from` of a `Ledger` has its shape, and no field in common.)
     #[tactic(auto, unfolding(crate::specs::Measuring::ranging_in))]
-    fn ranging(self) -> Ranging
-        ensures { result ≡ ranging_in self }
+    fn ranging(&self) -> Ranging
+        ensures { result ≡ ranging_in self.now }
     {
         Ranging {
             ranges: self.ranges,
@@ -117,9 +122,9 @@ impl Measuring {
         }
     }
 
-    // A range was applied: its mark, and no values.
+    /// A range was applied: its mark, and no values.
     #[tactic(auto, unfolding(crate::specs::Measuring::ranged_to))]
-    fn ranged_to(self, ranged: Ranged) -> Outcome
+    pub(crate) fn ranged_to(self, ranged: Ranged) -> Outcome
         ensures { result ≡ ranged_to self ranged }
     {
         Outcome {
@@ -130,38 +135,24 @@ impl Measuring {
                 comparator: ranged.ranging.comparator,
                 ..self
             },
-            mark: Stamp {
-                set: true,
-                at: ranged.deadline,
-            },
+            mark: Some(ranged.deadline),
             to_values: false,
             ad1_taken: false,
         }
     }
 
-    // The autorange of a channel (the source's `pw_autorange`).
+    /// The autorange of a channel (the source's `pw_autorange`).
     #[tactic(auto, unfolding(crate::specs::Measuring::autorange))]
-    fn autorange(self, setup: Setup, channel: Channel, now: u64) -> Option<Ranged>
-        ensures { result ≡ autorange setup channel now self }
+    pub(crate) fn autorange(&self, setup: &Setup, channel: Channel, now: u64) -> Option<Ranged>
+        ensures { result ≡ autorange setup.now channel now self.now }
     {
-        let description = setup.with.description;
-        let ranging = self.ranging();
-        ranging::autorange::autorange(channel, description, setup.mode, self.parts, ranging, now)
-    }
-
-    /// A range that is applied ends the frame; else this comes.
-    pub(crate) fn unless_ranged(
-        self,
-        setup: Setup,
-        channel: Channel,
-        now: u64,
-        otherwise: Outcome,
-    ) -> Outcome
-        ensures { result ≡ unless_ranged self otherwise (autorange setup channel now self) }
-    {
-        match self.autorange(setup, channel, now) {
-            Some(ranged) => self.ranged_to(ranged),
-            None => otherwise,
-        }
+        ranging::autorange::autorange(
+            channel,
+            setup.with.description,
+            setup.mode,
+            self.parts,
+            self.ranging(),
+            now,
+        )
     }
 }

@@ -11,12 +11,11 @@ use takes::scales::Instrument;
 
 // No range changed: the comparator's choice, and the next phase.
 #[tactic(auto, unfolding(crate::specs::MethodB::b_unranged))]
-fn b_unranged(with: Instrument, before: Measuring) -> Outcome
-    ensures { result ≡ b_unranged with before }
+fn b_unranged(with: &Instrument, before: Measuring) -> Outcome
+    ensures { result ≡ b_unranged with.now before }
 {
-    let seen = before.cycle.seen;
     Measuring {
-        comparator: cmp_select(with, before.ranges, seen, before.parts, before.comparator),
+        comparator: cmp_select(with, &before),
         cycle: advance(before.cycle),
         ..before
     }
@@ -25,8 +24,8 @@ fn b_unranged(with: Instrument, before: Measuring) -> Outcome
 
 /// Only XX and YY may change a range or the comparator.
 #[tactic(auto, unfolding(crate::specs::MethodB::b_next))]
-pub(crate) fn b_next(setup: Setup, now: u64, before: Measuring) -> Outcome
-    ensures { result ≡ b_next setup now before }
+pub(crate) fn b_next(setup: &Setup, now: u64, before: Measuring) -> Outcome
+    ensures { result ≡ b_next setup.now now before }
 {
     let channel = match before.cycle.stat {
         R34_XY => {
@@ -36,5 +35,8 @@ pub(crate) fn b_next(setup: Setup, now: u64, before: Measuring) -> Outcome
         R34_YY => Channel::Voltage,
         _ => Channel::Current,
     };
-    before.unless_ranged(setup, channel, now, b_unranged(setup.with, before))
+    match before.autorange(setup, channel, now) {
+        Some(ranged) => before.ranged_to(ranged),
+        None => b_unranged(&setup.with, before),
+    }
 }

@@ -40,7 +40,7 @@ fn noted(before: Ring, raw: Raw) -> Ring
     after
 }
 
-// An RMS and LPF result at the time `now`.
+// An RMS and LPF result at the time `now`. Which one is a number: R34, or 1 to 3, as the ring that a C host keeps has it.
 #[tactic(auto, unfolding(crate::specs::Ring::note_result))]
 fn note_result(before: Ring, now: u64, stat: u8, disc: bool, codes: Codes) -> Ring
     ensures { result ≡ note_result before now stat disc codes }
@@ -99,7 +99,7 @@ fn is_dropped(mode: Mode, cycle: Cycle) -> bool
 }
 
 /// The ring after a frame that came upon this cycle: an RMS and LPF result is noted in any case, one of AD1
-/// where it was taken.
+/// where it was taken. (`ad1_taken` is the outcome's yes or no, which says at the call what it stands for.)
 #[tactic(auto, unfolding(crate::specs::Ring::ring_after))]
 pub fn ring_after(before: Ring, mode: Mode, cycle: Cycle, frame: Frame, ad1_taken: bool) -> Ring
     ensures { result ≡ ring_after before mode cycle frame ad1_taken }

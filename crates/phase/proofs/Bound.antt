@@ -14,7 +14,7 @@ use Rattle.numbers.specs.Binary32.{◌+f◌, ◌-f◌, zero_f, is_finite}
 use Rattle.numbers.specs.Convert.{half_f, half_away}
 use Rattle.phase.specs.Phase.{most_steps}
 use Rattle.numbers.proofs.Cutting.{or_le}
-use Rattle.numbers.proofs.NarrowSign.{neg_round}
+use Rattle.std.proofs.num.Values.{neg-round}
 use Rattle.numbers.proofs.Order.{le_neg}
 use Rattle.tables.proofs.Both.{holds}
 
@@ -69,7 +69,7 @@ beyond m e t =
 pub minus_half : (m : ℕ) (e : ℤ) → le (neg most_steps) (fin true m e) ≡ true → nat_abs (to_signed 7 (fin true m e -f half_f)) ≤ 127
 unfolding sub add sum neg of_bits
 minus_half m e t =
-    subst (λ (x : Float). nat_abs (to_signed 7 x) ≤ 127) (neg_round (m * up e * 2 + 1 * 1 * down e) (down e * 2))
+    subst (λ (x : Float). nat_abs (to_signed 7 x) ≤ 127) (neg-round binary32 (m * up e * 2 + 1 * 1 * down e) (down e * 2))
     (cut_minus (round binary32 false (m * up e * 2 + 1 * 1 * down e) (down e * 2)) (beyond m e t))
 
 -- from zero on, minus zero too: half a step up has a plus sign

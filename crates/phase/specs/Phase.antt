@@ -1,5 +1,5 @@
 -- The phase calibration: the source's `pw_cal_start`, `cal_outcome`, and the last part of its accounting step. `cal` is 0 while none runs, else the round; any number but 0 and 1 counts as 2.
-use Rattle.std.specs.Prelude.{Bool, true, cond, not, ◌&&◌, ℕ, eqb, leb, ℤ, pos, negsuc, ◌+ℤ◌, Float, Result, Ok, Err}
+use Rattle.std.specs.Prelude.{Bool, true, if◌then◌else◌, not, ◌&&◌, ℕ, eqb, leb, ℤ, pos, negsuc, ◌+ℤ◌, Float, Result, Ok, Err}
 use Rattle.std.specs.Result.{result_unwrap_or}
 use Rattle.std.specs.Int.Signed.{lt_z}
 use Rattle.std.specs.Float.{nan, binary32}
@@ -21,7 +21,7 @@ most_steps = of_bits binary32 0x42fe_fae1
 
 -- `cal_outcome`: `Err(CAL_FLAT)` where s is not finite, `Err(CAL_RANGE)` outside `-127.49..=127.49`, else `Ok((if s < 0.0 { s - 0.5 } else { s + 0.5 }) as i8)`
 unfoldable pub cal_outcome : Float → Result ℤ CalError
-cal_outcome s = cond (is_finite s) (cond (within (neg most_steps) most_steps s) (Ok (to_signed 7 (half_away s))) (Err Range)) (Err Flat)
+cal_outcome s = if is_finite s then (if within (neg most_steps) most_steps s then Ok (to_signed 7 (half_away s)) else Err Range) else Err Flat
 
 -- `CAL_FLAT`, `CAL_NOT_REACTIVE` and `CAL_RANGE`
 abbrev pub error_number : CalError → ℕ
@@ -56,7 +56,7 @@ cal_off c =
 
 -- `cal_s0 as i16 + d` with `d = if cal_s0 > 79 { -48 } else { 48 }`
 unfoldable pub trial_steps : ℤ → ℤ
-trial_steps s0 = cond (lt_z (pos 79) s0) (s0 +ℤ negsuc 47) (s0 +ℤ pos 48)
+trial_steps s0 = if lt_z (pos 79) s0 then s0 +ℤ negsuc 47 else s0 +ℤ pos 48
 
 -- `slope = (m - cal_pa) / d` with `d = sph as f32 - cal_s0 as f32`
 unfoldable pub slope_of : PhaseCal → Float → Float
@@ -68,7 +68,7 @@ least_slope = of_bits binary32 0x33d6_bf95
 
 -- `if slope.abs() > 1e-7 { cal_s0 as f32 - cal_pa / slope } else { f32::NAN }`
 unfoldable pub null_of : PhaseCal → Float → Float
-null_of c m = cond (lt least_slope (abs_of (slope_of c m))) (of_int binary32 c.cal_s0 -f c.cal_pa /f slope_of c m) nan
+null_of c m = if lt least_slope (abs_of (slope_of c m)) then of_int binary32 c.cal_s0 -f c.cal_pa /f slope_of c m else nan
 
 -- each end of a round has `cal_n = 0; cal_acc = 0.0`; here also `cal = 0; cal_res = CAL_NOT_REACTIVE`
 unfoldable pub not_reactive : PhaseCal → PhaseCal
@@ -114,11 +114,9 @@ too_active c = lt cal_pf_max (abs_of (round_mean c))
 -- `if cal == 1 && m.abs() > CAL_PF_MAX { .. } else if cal == 1 { .. } else { .. }`: all but the first have `cal_req = true`
 unfoldable pub round_ended : PhaseCal → Bool → PhaseStep
 round_ended c req =
-    cond (eqb c.cal 1)
-    (cond (too_active c)
-    (record { phase_cal = not_reactive c; cal_req = req })
-    (record { phase_cal = on_trial c (round_mean c); cal_req = true }))
-    (record { phase_cal = finished c (round_mean c); cal_req = true })
+    if eqb c.cal 1 then (if too_active c then record { phase_cal = not_reactive c; cal_req = req }
+    else record { phase_cal = on_trial c (round_mean c); cal_req = true })
+    else record { phase_cal = finished c (round_mean c); cal_req = true }
 
 -- `cal != 0 && cal_n >= 8`
 unfoldable pub round_full : PhaseCal → Bool
@@ -126,4 +124,4 @@ round_full c = not (eqb c.cal 0) && leb 8 c.cal_n
 
 -- the accounting step's part
 unfoldable pub cal_accounted : PhaseCal → Bool → PhaseStep
-cal_accounted c req = cond (round_full c) (round_ended c req) (record { phase_cal = c; cal_req = req })
+cal_accounted c req = if round_full c then round_ended c req else record { phase_cal = c; cal_req = req }

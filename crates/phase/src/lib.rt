@@ -11,7 +11,7 @@ use state::PhaseCal;
 use tables::bounds::within;
 use tables::constants::{CAL_FLAT, CAL_NOT_REACTIVE, CAL_OK, CAL_PF_MAX, CAL_RANGE, CAL_RUN};
 
-/// Why a calibration has found no phase step.
+/// Why a calibration has found no phase step: the error of a `Result`.
 #[derive(Clone, Copy, Debug, PartialEq, Eq)]
 pub enum CalError {
     /// there is no finite null, as where the two means hardly differ
@@ -59,7 +59,8 @@ pub fn cal_outcome(s: f32) -> Result<i8, CalError>
     Ok(numbers::f32_to_i8(numbers::half_away(s)))
 }
 
-/// An outcome's number, as `cal_res` holds it.
+/// An outcome's number, as `cal_res` holds it: one of the source's `CAL_` numbers. (A job's end and a refusal have numbers of
+/// their own, by `result_number` and `told_number`. A function, since no crate may write a `From` for a `Result`.)
 pub fn cal_number(outcome: Result<i8, CalError>) -> u8
     ensures { result ≡ cal_number outcome }
 {
@@ -97,6 +98,9 @@ pub fn cal_off(before: PhaseCal) -> PhaseCal
 
 // ---- a round's end
 
+// Functions that are handed `before`, four of them with the mean `m` beside it, and no methods: `PhaseCal` is a struct of
+// the crate `state`, and a crate can write methods for its own types alone.
+
 // The trial step: 48 up, or 48 down where that would leave 8 bits. (The source adds in 16 bits and
 // cuts to 8; nothing is ever cut.)
 #[tactic(auto, unfolding(crate::specs::Phase::trial_steps))]
@@ -116,7 +120,7 @@ fn slope_of(before: PhaseCal, m: f32) -> f32
 }
 
 // The null: the steps at which the mean would be zero; a NaN where it hardly changes.
-#[tactic(auto, unfolding(crate::specs::Phase::null_of))]
+#[tactic(auto, using(numbers::proofs::NoNumber::nan_is), unfolding(crate::specs::Phase::null_of))]
 fn null_of(before: PhaseCal, m: f32) -> f32
     ensures { result ≡ null_of before m }
 {
@@ -124,7 +128,7 @@ fn null_of(before: PhaseCal, m: f32) -> f32
     if numbers::abs(slope) > 1e-7 {
         f32::from(before.cal_s0) - before.cal_pa / slope
     } else {
-        numbers::nan()
+        f32::NAN
     }
 }
 

@@ -1,13 +1,17 @@
-//! The functions of the C interface, which crates/pw_c exports: include/pw.h describes each.
+//! The functions of the C interface, which crates/pw_c exports: include/pw.h describes each. C calls one function for
+//! each thing, by its name: so some have one shape. It has no `Result` and no `Option`: so the refusal by its number and
+//! the mark `found` stand beside the values. The unit goes by number too, and the two formats are asked for with the
+//! marks of the source, `va` and `watts`.
 #![tactic(auto)]
 
 ghost use Rattle.std.specs.Prelude.{◌≡◌};
+ghost use Rattle.refusals.specs.Number.{told_number};
 ghost use Rattle.codes.specs.Frame.{decoded};
 ghost use Rattle.tables.specs.Window.{cmp_window};
 ghost use Rattle.tables.specs.Ranges.{r36_of};
 ghost use Rattle.tables.specs.Row.{row_kind, row_number};
 ghost use Rattle.figures.specs.Exact.{ExactAfter};
-ghost use Rattle.figures.specs.Acc.{fresh_acc, add_to, added_number, added_acc, watt_hours};
+ghost use Rattle.figures.specs.Acc.{fresh_acc, add_to, added_acc, watt_hours};
 ghost use Rattle.formats.specs.Formats.{energy_format, p_format};
 ghost use Rattle.pw.specs.Host.{frame_codes, host_window, host_format};
 
@@ -16,9 +20,9 @@ pub mod shown;
 
 use figures::acc::Acc;
 use formats::format::Format;
-use refusals::Refusal;
+use refusals::told_number;
 
-/// `struct pw_codes`: the refusal's number, and the codes of the frame, 0 where it is refused.
+/// `struct pw_codes`: the refusal's number, and the codes of the frame, 0 where it is refused. C has no `Result`.
 #[derive(Clone, Copy)]
 #[repr(C)]
 pub struct FrameCodes {
@@ -33,15 +37,17 @@ pub struct FrameCodes {
 pub fn pw_decode(bytes: &[u8]) -> FrameCodes
     ensures { result ≡ frame_codes (decoded bytes.now) }
 {
-    match codes::decode(bytes) {
+    let answer = codes::decode(bytes);
+    let refusal = told_number(&answer);
+    match answer {
         Ok(c) => FrameCodes {
-            refusal: 0,
+            refusal,
             ad1: c.ad1,
             lpf: c.lpf,
             rms: c.rms,
         },
-        Err(refusal) => FrameCodes {
-            refusal: refusals::number(refusal),
+        Err(_) => FrameCodes {
+            refusal,
             ad1: 0,
             lpf: 0,
             rms: 0,
@@ -49,7 +55,7 @@ pub fn pw_decode(bytes: &[u8]) -> FrameCodes
     }
 }
 
-/// `struct pw_window`: whether a window was found, and R21, 0 where none was.
+/// `struct pw_window`: whether a window was found, and R21, 0 where none was. C has no `Option`.
 #[derive(Clone, Copy)]
 #[repr(C)]
 pub struct HostWindow {
@@ -96,13 +102,11 @@ pub fn pw_acc_fresh() -> Acc
 }
 
 /// Adds to the host's own accumulator, and answers 0; or 6, full, and it is as it was.
+#[tactic(auto, using(figures::proofs::Exactly::answer_told))]
 pub fn pw_acc_add(acc: &mut Acc, joules: f32) -> u8
-    ensures { (result ≡ added_number (add_to acc.old joules)) × (acc.new ≡ added_acc acc.old (add_to acc.old joules)) × ExactAfter acc.old joules result acc.new }
+    ensures { (result ≡ told_number (add_to acc.old joules)) × (acc.new ≡ added_acc acc.old (add_to acc.old joules)) × ExactAfter acc.old joules result acc.new }
 {
-    match acc.add(joules) {
-        Ok(()) => 0,
-        Err(refusal) => refusals::number(refusal),
-    }
+    told_number(&acc.add(joules))
 }
 
 /// The watt hours of an accumulator.
@@ -121,14 +125,19 @@ pub struct HostFormat {
     pub unit: u8,
 }
 
-#[tactic(auto, unfolding(crate::specs::Host::host_format))]
-fn host_format(f: Format) -> HostFormat
-    ensures { result ≡ host_format f }
-{
-    HostFormat {
-        number: f.number,
-        decimals: f.decimals,
-        unit: u8::from(f.unit),
+/// A format, its unit by the number.
+impl From<Format> for HostFormat {
+    ghost use Rattle.pw.specs.Host.{host_format};
+
+    ghost from_gives = { λ format shown. shown ≡ host_format format };
+
+    #[tactic(auto, unfolding(crate::specs::Host::host_format))]
+    fn from(format: Format) -> HostFormat {
+        HostFormat {
+            number: format.number,
+            decimals: format.decimals,
+            unit: u8::from(format.unit),
+        }
     }
 }
 
@@ -136,12 +145,12 @@ fn host_format(f: Format) -> HostFormat
 pub fn pw_energy_format(wh: f32, va: bool) -> HostFormat
     ensures { result ≡ host_format (energy_format wh va) }
 {
-    host_format(formats::format::energy_format(wh, va))
+    HostFormat::from(formats::format::energy_format(wh, va))
 }
 
 /// `p_format`: a power of si W or VA, in a pair of ranges of fs W or VA full scale.
 pub fn pw_p_format(fs: f32, si: f32, watts: bool) -> HostFormat
     ensures { result ≡ host_format (p_format fs si watts) }
 {
-    host_format(formats::format::p_format(fs, si, watts))
+    HostFormat::from(formats::format::p_format(fs, si, watts))
 }

@@ -1,4 +1,5 @@
-//! What a host reads off a meter: include/pw.h describes each function.
+//! What a host reads off a meter: include/pw.h describes each function. C calls one function for each thing read, by its
+//! name: so several have one shape, the conversion of what another crate works out.
 ghost use Rattle.std.specs.Prelude.{◌≡◌};
 ghost use Rattle.tables.specs.Row.{row_kind, row_number};
 ghost use Rattle.values.specs.Vals.{pw_vals, pw_state, integrating};

@@ -1,4 +1,5 @@
 //! The calls on a meter that the host keeps by value: include/pw.h describes each.
+//! C links a function by its name: so there is one export for each, of one shape.
 ghost use Rattle.std.specs.Prelude.{◌≡◌};
 ghost use Rattle.meter.specs.Making.{make};
 ghost use Rattle.meter.specs.Calls.{step, On, Off, Method, SetRanges, Coupling, ZeroJob, GainJob, PhaseStart, EnergyReset, Run, SetSettings, Reapply, Frame};

@@ -1,13 +1,15 @@
 //! The C interface, built as libpw.a: include/pw.h describes each function. Each is that of crates/pw, under its C name.
+//! C links a function by its name: so there is one export for each, of one shape.
 #![tactic(auto)]
 
 ghost use Rattle.std.specs.Prelude.{◌≡◌};
+ghost use Rattle.refusals.specs.Number.{told_number};
 ghost use Rattle.codes.specs.Frame.{decoded};
 ghost use Rattle.tables.specs.Window.{cmp_window};
 ghost use Rattle.tables.specs.Ranges.{r36_of};
 ghost use Rattle.tables.specs.Row.{row_kind, row_number};
 ghost use Rattle.figures.specs.Exact.{ExactAfter};
-ghost use Rattle.figures.specs.Acc.{fresh_acc, add_to, added_number, added_acc, watt_hours};
+ghost use Rattle.figures.specs.Acc.{fresh_acc, add_to, added_acc, watt_hours};
 ghost use Rattle.formats.specs.Formats.{energy_format, p_format};
 ghost use Rattle.pw.specs.Host.{frame_codes, host_window, host_format};
 
@@ -60,7 +62,7 @@ pub extern "C" fn pw_acc_fresh() -> Acc
 /// Adds to the host's own accumulator, and answers 0; or 6, full, and it is as it was.
 #[unsafe(no_mangle)]
 pub extern "C" fn pw_acc_add(acc: &mut Acc, joules: f32) -> u8
-    ensures { (result ≡ added_number (add_to acc.old joules)) × (acc.new ≡ added_acc acc.old (add_to acc.old joules)) × ExactAfter acc.old joules result acc.new }
+    ensures { (result ≡ told_number (add_to acc.old joules)) × (acc.new ≡ added_acc acc.old (add_to acc.old joules)) × ExactAfter acc.old joules result acc.new }
 {
     pw::pw_acc_add(acc, joules)
 }

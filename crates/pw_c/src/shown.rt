@@ -1,4 +1,5 @@
 //! What a host reads off a meter: include/pw.h describes each function.
+//! C links a function by its name: so there is one export for each, of one shape.
 ghost use Rattle.std.specs.Prelude.{◌≡◌};
 ghost use Rattle.tables.specs.Row.{row_kind, row_number};
 ghost use Rattle.values.specs.Vals.{pw_vals, pw_state, integrating};

@@ -1,10 +1,8 @@
 -- What a line of `pwline` does to its meter, and what is written for it.
-use Rattle.std.specs.Prelude.{ℕ, ◌+◌, ◌%◌, ◌^◌, List, Option, Some, None, Result, Ok, Err}
-use Rattle.refusals.specs.declared.Refusal.{Refusal}
-use Rattle.refusals.specs.Number.{refusal_number}
+use Rattle.std.specs.Prelude.{ℕ, ◌+◌, ◌%◌, ◌^◌, List, Option, Some, None}
+use Rattle.refusals.specs.Number.{told_number}
 use Rattle.state.specs.declared.Pw.{Pw}
 use Rattle.steps.specs.declared.place.Kind.TheVariants as job
-use Rattle.orders.specs.declared.answer.Answer.{Answer as Told}
 use Rattle.orders.specs.declared.answer.Step.{Step}
 use Rattle.orders.specs.Switches.{on}
 use Rattle.orders.specs.Starts.{start_job}
@@ -15,14 +13,9 @@ use Rattle.lines.specs.Spelling.{line_of}
 use Rattle.pwline.specs.declared.session.Reply.{Reply}
 use Rattle.pwline.specs.declared.text.Answer.{Answer}
 
--- "0, done", or the number of the refusal
-abbrev pub answer_number : Result Told Refusal → ℕ
-answer_number (Ok a) = 0
-answer_number (Err n) = refusal_number n
-
--- a line that was spelled as an order or a frame: the meter's answer
+-- a line that was spelled as an order or a frame: the meter after it, and the number of its answer, "0, done" or the refusal's
 unfoldable pub told_by : Step → Reply
-told_by s = record { pw = s.pw; refusal = Some (answer_number s.answer) }
+told_by s = record { pw = s.pw; refusal = Some (told_number s.answer) }
 
 -- "a line of another spelling changes nothing"
 unfoldable pub not_told : Pw → Reply

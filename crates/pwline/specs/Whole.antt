@@ -1,5 +1,5 @@
 -- The whole of `pwline`: what it writes for an input, with nothing of how the input is read. proofs/Stated.antt shows that feeding the bytes one by one writes just this.
-use Rattle.std.specs.Prelude.{ℕ, cond, Some, List, [], ◌∷◌, ◌++◌, length, ◌==◌}
+use Rattle.std.specs.Prelude.{ℕ, if◌then◌else◌, Some, List, [], ◌∷◌, ◌++◌, length, ◌==◌}
 use Rattle.state.specs.declared.Pw.{Pw}
 use Rattle.meter.specs.Making.{plain_meter}
 use Rattle.pwline.specs.Obeyed.{obeyed, next_number, answer_of}
@@ -7,8 +7,8 @@ use Rattle.pwline.specs.Text.{due_text}
 
 -- the lines of an input, `line` having been read of the first: a line feed ends each; "A last line without a line feed counts as a line"
 unfoldable pub lines_from : List ℕ → List ℕ → List (List ℕ)
-lines_from line [] = cond (length line == 0) [] (line ∷ [])
-lines_from line (b ∷ input) = cond (b == 10) (line ∷ lines_from [] input) (lines_from (line ++ (b ∷ [])) input)
+lines_from line [] = if length line == 0 then [] else line ∷ []
+lines_from line (b ∷ input) = if b == 10 then line ∷ lines_from [] input else lines_from (line ++ (b ∷ [])) input
 
 -- the answers to lines numbered from n on, each line's meter as the last one left it
 unfoldable pub answers_from : ℕ → Pw → List (List ℕ) → List ℕ

@@ -28,6 +28,7 @@ fn write(rt: &impl Print, answer: Option<Answer>) {
 }
 
 // A part of the input, byte by byte; what is due is written.
+#[tactic(auto, using(crate::proofs::Feeding::fed_next, crate::proofs::Feeding::fed_end))]
 fn feed_all(rt: &impl Print, session: &mut Session, part: &[u8])
     ensures { session.new ≡ fed_all session.old part.now }
 {

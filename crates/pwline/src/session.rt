@@ -11,7 +11,7 @@ use meter::making::plain_meter;
 use orders::answer::Step;
 use orders::starts::zero_job;
 use orders::switches::on;
-use refusals::number;
+use refusals::told_number;
 use state::Pw;
 use tables::calibration::Calibration;
 use tables::description::Description;
@@ -20,7 +20,8 @@ use tables::description::Description;
 // whatever follows.
 const KEPT: usize = 128;
 
-/// The meter after a line, and its refusal number if the line spells an order or a frame.
+/// The meter after a line, and its refusal number if the line spells an order or a frame. (A number, as in `Answer`: it is
+/// what is written, and done, 0, is no `Refusal`.)
 #[derive(Clone, Copy)]
 pub struct Reply {
     pub pw: Pw,
@@ -42,10 +43,7 @@ fn told_by(step: Step) -> Reply
 {
     Reply {
         pw: step.pw,
-        refusal: Some(match step.answer {
-            Ok(_) => 0,
-            Err(refusal) => number(refusal),
-        }),
+        refusal: Some(told_number(&step.answer)),
     }
 }
 

@@ -4,7 +4,8 @@ ghost use Rattle.pwline.specs.Text.{answer_text};
 
 use std::fmt;
 
-/// The answer to a line: its number, the refusal number where the line spells an order or a frame, `job_res`.
+/// The answer to a line: its number, the refusal number where the line spells an order or a frame, `job_res`. (A number,
+/// since it is what is written, and done, 0, is no `Refusal`.)
 #[derive(Clone, Copy, Debug)]
 pub struct Answer {
     pub number: u64,

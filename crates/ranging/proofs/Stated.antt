@@ -1,6 +1,6 @@
 -- What follows from the definitions: which quantities an apply leaves marked, what an autorange leaves as it was, that ranges stay within the tables, that `stat` goes with the phase, and what a mark holds.
 use mathlib.Core.Bool.{Bool, true, false, cond, ◌&&◌}
-use mathlib.Core.Path.{◌≡◌, refl, ap}
+use mathlib.Core.Path.{◌≡◌, refl}
 use Prim.Native.Nat.{ℕ, ◌+◌, ◌-◌, ◌/◌, ◌%◌, ◌≤◌, min}
 use native.Mathlib.Omega.{arith}
 use borrow.Author.Tests.{ltb-true}
@@ -100,12 +100,18 @@ module _ (d : Description) (mode : Mode) (p : Parts) (g : Ranging) (now : ℕ) w
       go false None = (refl, refl, refl)
       go false (Some ik) = (refl, refl, refl)
 
-  -- where no range is applied, nothing has changed
-  pub v_unmarked : autorange of.Voltage d mode p g now ≡ None → after g (autorange of.Voltage d mode p g now) ≡ g
-  v_unmarked none = ap (after g) none
+  -- where no range is asked for, none is applied; so the V range, set by hand, stays
+  pub v_unasked : v_change d g.ranges p ≡ None → autorange of.Voltage d mode p g now ≡ None
+  unfolding autorange asked asked_v
+  v_unasked none = rw none refl
 
-  pub i_unmarked : autorange of.Current d mode p g now ≡ None → after g (autorange of.Current d mode p g now) ≡ g
-  i_unmarked none = ap (after g) none
+  pub i_unasked : trips d g.ranges p ≡ false → i_change d g.ranges g.barred p ≡ None → autorange of.Current d mode p g now ≡ None
+  unfolding autorange asked asked_i
+  i_unasked none unchanged = rw (none, unchanged) refl
+
+  pub v_by_hand : g.ranges.v_auto ≡ false → autorange of.Voltage d mode p g now ≡ None
+  unfolding v_change
+  v_by_hand hand = v_unasked (rw hand refl)
 
 -- ---- a trip: only by hand
 pub auto_never_trips : (d : Description) (r : Ranges) (p : Parts) → r.i_auto ≡ true → trips d r p ≡ false

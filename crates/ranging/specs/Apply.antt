@@ -1,5 +1,5 @@
 -- `pw_apply` of the source. Document 01: "An apply also sets `stat` to `CYCLE[phase]`; `write_config` is not in the text, so it becomes a mark to the host, with the deadline (the call's time plus the source's settle)".
-use Rattle.std.specs.Prelude.{true, cond, ◌||◌, ℕ, eqb}
+use Rattle.std.specs.Prelude.{true, if◌then◌else◌, ◌||◌, ℕ, eqb}
 use Rattle.tables.specs.Constants.{cycle_at, r20_sense, r21_default, settle_ms, alt_v_skip, dc_skip}
 use Rattle.state.specs.declared.Mode.{Mode}
 use Rattle.state.specs.declared.Cycle.{Cycle}
@@ -20,11 +20,11 @@ first_phase Current = 1
 
 -- in method B only; in DC coupling and in the alternating method phase 0
 unfoldable pub phase_after : Keep → Mode → ℕ
-phase_after keep mode = cond (mode.dc || mode.alt) 0 (first_phase keep)
+phase_after keep mode = if mode.dc || mode.alt then 0 else first_phase keep
 
 -- `seen & bit`
 unfoldable pub bit_in : ℕ → Quantity → ℕ
-bit_in seen p = cond (has_seen seen p) (bit_of p) 0
+bit_in seen p = if has_seen seen p then bit_of p else 0
 
 -- `seen &= keep & !1`, with `keep` 0, 2 or 4
 unfoldable pub kept_seen : Keep → ℕ → ℕ
@@ -34,11 +34,11 @@ kept_seen Current seen = bit_in seen part.Current
 
 -- `skip`: `DC_SKIP` in DC coupling, `ALT_V_SKIP` in the alternating method, else none
 unfoldable pub skip_after : Mode → ℕ
-skip_after mode = cond mode.dc dc_skip (cond mode.alt alt_v_skip 0)
+skip_after mode = if mode.dc then dc_skip else if mode.alt then alt_v_skip else 0
 
 -- "The window was for another tap: back to the default"
 unfoldable pub comparator_for : ℕ → Comparator → Comparator
-comparator_for vr c = cond (eqb c.cmp_vr vr) c (record { r20 = r20_sense; r21 = r21_default; f_ok = true; cmp_vr = vr })
+comparator_for vr c = if eqb c.cmp_vr vr then c else record { r20 = r20_sense; r21 = r21_default; f_ok = true; cmp_vr = vr }
 
 unfoldable pub apply : Keep → Mode → ℕ → Cycle → Comparator → ℕ → Applied
 apply keep mode vr cycle comparator now =

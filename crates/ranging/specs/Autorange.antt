@@ -1,5 +1,5 @@
 -- `pw_autorange` and `pw_ovl_trip` of the source: a range that changes is applied at once ("A range change of one channel keeps the other's parts"). Document 01: "Overload keeps only `barred`: a trip sets it".
-use Rattle.std.specs.Prelude.{cond, ℕ, Option, Some, None}
+use Rattle.std.specs.Prelude.{if◌then◌else◌, ℕ, Option, Some, None}
 use Rattle.tables.specs.declared.description.Description.{Description}
 use Rattle.state.specs.declared.Mode.{Mode}
 use Rattle.state.specs.declared.Parts.{Parts}
@@ -32,21 +32,16 @@ applied keep mode g now = ranged g (apply keep mode g.ranges.vr g.cycle g.compar
 -- the V range becomes vr
 abbrev pub with_vr : Ranging → ℕ → Ranging
 with_vr g vr =
-    record {
+    record g {
       ranges = record { vr = vr; ik = g.ranges.ik; v_auto = g.ranges.v_auto; i_auto = g.ranges.i_auto };
-      barred = g.barred;
-      cycle = g.cycle;
-      comparator = g.comparator;
     }
 
 -- the current range becomes ik
 abbrev pub with_ik : Ranging → ℕ → ℕ → Ranging
 with_ik g barred ik =
-    record {
+    record g {
       ranges = record { vr = g.ranges.vr; ik = ik; v_auto = g.ranges.v_auto; i_auto = g.ranges.i_auto };
       barred = barred;
-      cycle = g.cycle;
-      comparator = g.comparator;
     }
 
 abbrev pub by_change_v : Ranging → Option ℕ → Option Ranging
@@ -63,7 +58,7 @@ asked_v d p g = by_change_v g (v_change d g.ranges p)
 
 -- after a current result: a trip goes to 10 A, range 5, and bars the unit
 unfoldable pub asked_i : Description → Parts → Ranging → Option Ranging
-asked_i d p g = cond (trips d g.ranges p) (Some (with_ik g (barred_after g.barred g.ranges.ik) 5)) (by_change_i g (i_change d g.ranges g.barred p))
+asked_i d p g = if trips d g.ranges p then Some (with_ik g (barred_after g.barred g.ranges.ik) 5) else by_change_i g (i_change d g.ranges g.barred p)
 
 unfoldable pub asked : Channel → Description → Parts → Ranging → Option Ranging
 asked Voltage d p g = asked_v d p g

@@ -3,11 +3,12 @@
 ghost use Rattle.std.specs.Prelude.{◌≡◌};
 ghost use Rattle.ranging.specs.Apply.{phase_after, bit_in, kept_seen, skip_after, comparator_for, apply};
 
-use state::{Comparator, Cycle, Mode, Quantity, bit_of, deadline, has_seen};
+use state::{Comparator, Cycle, Mode, Quantity, deadline};
 use tables::constants::{ALT_V_SKIP, DC_SKIP, R20_SENSE, R21_DEFAULT, SETTLE_MS};
 use tables::lookups::cycle;
 
-/// Which channel's marks stay over an apply (the source's `keep`: 0, 2, 4).
+/// Which channel's marks stay over an apply (the source's `keep`: 0, 2, 4). An `Option<Channel>` has the same
+/// three cases, but an `apply(None, ..)` would not say that nothing is kept.
 #[derive(Clone, Copy, Debug, PartialEq, Eq)]
 pub enum Keep {
     Nothing,
@@ -17,7 +18,6 @@ pub enum Keep {
 
 /// What an apply leaves, and when the host goes on.
 #[derive(Clone, Copy)]
-#[repr(C)]
 pub struct Applied {
     pub cycle: Cycle,
     pub comparator: Comparator,
@@ -41,11 +41,11 @@ fn phase_after(keep: Keep, mode: Mode) -> u8
 }
 
 // The bit of a quantity in `seen`, 0 where it is not set.
-#[tactic(auto, unfolding(crate::specs::Apply::bit_in))]
+#[tactic(auto, using(state::proofs::Bits::in_common), unfolding(crate::specs::Apply::bit_in))]
 fn bit_in(seen: u8, q: Quantity) -> u8
     ensures { result ≡ bit_in seen q }
 {
-    if has_seen(seen, q) { bit_of(q) } else { 0 }
+    seen & u8::from(q)
 }
 
 // The marks that stay; the power's never does.

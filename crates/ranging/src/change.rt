@@ -2,6 +2,7 @@
 ghost use Rattle.std.specs.Prelude.{◌≡◌};
 ghost use Rattle.ranging.specs.Change.{step, v_change, overload_trips, is_over, trips, barred_after, shunt_floor, least_ik, i_change};
 
+use crate::autorange::Ranging;
 use state::{Parts, Ranges};
 use tables::description::Description;
 use tables::lookups::{i_lim, v_lim};
@@ -22,25 +23,13 @@ fn step(over: f32, limit: f32, m: f32, k: u8, least: u8, most: u8) -> Option<u8>
     }
 }
 
-/// The V channel's, after a V result.
-#[tactic(auto, unfolding(crate::specs::Change::v_change))]
-pub(crate) fn v_change(description: Description, ranges: Ranges, parts: Parts) -> Option<u8>
-    ensures { result ≡ v_change description ranges parts }
-{
-    if !ranges.v_auto {
-        return None;
-    }
-    let m = numbers::hypot(parts.v_ac, parts.v_dc);
-    step(description.over, v_lim(ranges.vr), m, ranges.vr, 0, 3)
-}
-
 // sentinel.rs's rule: over range on the mA or uA shunt trips, on its lower range only if that was set
-// by hand.
+// by hand. Document 01 keeps it whole, so with the unit by its number and the range set by hand as a mark.
 #[tactic(auto, unfolding(crate::specs::Change::overload_trips))]
 fn overload_trips(unit: u8, range: u8, manual: bool, over: bool) -> bool
     ensures { result ≡ overload_trips unit range manual over }
 {
-    unit >= 1 && unit <= 2 && over && (manual || range >= 1)
+    (1..=2).contains(&unit) && over && (manual || range >= 1)
 }
 
 // Whether the current is above its range's limit by the over ratio.
@@ -48,20 +37,7 @@ fn overload_trips(unit: u8, range: u8, manual: bool, over: bool) -> bool
 fn is_over(over: f32, ik: u8, parts: Parts) -> bool
     ensures { result ≡ is_over over ik parts }
 {
-    numbers::hypot(parts.i_ac, parts.i_dc) > over * i_lim(ik)
-}
-
-/// Whether a current range that was set by hand trips.
-#[tactic(auto, unfolding(crate::specs::Change::trips))]
-pub(crate) fn trips(description: Description, ranges: Ranges, parts: Parts) -> bool
-    ensures { result ≡ trips description ranges parts }
-{
-    if ranges.i_auto {
-        return false;
-    }
-    let u = iu_ir(ranges.ik);
-    let over = is_over(description.over, ranges.ik, parts);
-    overload_trips(u.iu, u.ir, true, over)
+    parts.amperes() > over * i_lim(ik)
 }
 
 /// The unit barred after a trip on current range ik: that range's, or the one barred before where that
@@ -96,25 +72,49 @@ fn least_ik(a_auto: bool, barred: u8) -> u8
     if a_auto { floor.max(2) } else { floor }
 }
 
-/// The current channel's, after a current result: from the mA and uA shunts up in one hop to the A
-/// shunt.
-#[tactic(auto, unfolding(crate::specs::Change::i_change))]
-pub(crate) fn i_change(
-    description: Description,
-    ranges: Ranges,
-    barred: u8,
-    parts: Parts,
-) -> Option<u8>
-    ensures { result ≡ i_change description ranges barred parts }
-{
-    if !ranges.i_auto {
-        return None;
+impl Ranging {
+    /// The V channel's, after a V result.
+    #[tactic(auto, unfolding(crate::specs::Change::v_change))]
+    pub(crate) fn v_change(self, description: Description, parts: Parts) -> Option<u8>
+        ensures { result ≡ v_change description self.ranges parts }
+    {
+        let Ranges { vr, v_auto, .. } = self.ranges;
+        if !v_auto {
+            return None;
+        }
+        let m = parts.volts();
+        step(description.over, v_lim(vr), m, vr, 0, 3)
     }
-    let u = iu_ir(ranges.ik);
-    if is_over(description.over, ranges.ik, parts) && u.iu >= 1 {
-        return Some(4);
+
+    /// Whether a current range that was set by hand trips.
+    #[tactic(auto, unfolding(crate::specs::Change::trips))]
+    pub(crate) fn trips(self, description: Description, parts: Parts) -> bool
+        ensures { result ≡ trips description self.ranges parts }
+    {
+        let Ranges { ik, i_auto, .. } = self.ranges;
+        if i_auto {
+            return false;
+        }
+        let u = iu_ir(ik);
+        let over = is_over(description.over, ik, parts);
+        overload_trips(u.iu, u.ir, true, over)
     }
-    let m = numbers::hypot(parts.i_ac, parts.i_dc);
-    let least = least_ik(description.a_auto, barred);
-    step(description.over, i_lim(ranges.ik), m, ranges.ik, least, 5)
+
+    /// The current channel's, after a current result: from the mA and uA shunts up in one hop to the A
+    /// shunt.
+    #[tactic(auto, unfolding(crate::specs::Change::i_change))]
+    pub(crate) fn i_change(self, description: Description, parts: Parts) -> Option<u8>
+        ensures { result ≡ i_change description self.ranges self.barred parts }
+    {
+        let Ranges { ik, i_auto, .. } = self.ranges;
+        if !i_auto {
+            return None;
+        }
+        if is_over(description.over, ik, parts) && iu_ir(ik).iu >= 1 {
+            return Some(4);
+        }
+        let m = parts.amperes();
+        let least = least_ik(description.a_auto, self.barred);
+        step(description.over, i_lim(ik), m, ik, least, 5)
+    }
 }

@@ -6,9 +6,10 @@ use state::{Cycle, deadline};
 use tables::constants::{ALT_V_SETTLE_MS, ALT_V_SKIP, DISC_DEFAULT, SETTLE_MS};
 use tables::lookups::cycle;
 
-/// The next phase of the alternating method, and when the host goes on.
+/// The next phase of the alternating method, and when the host goes on. (`Ranged` too is what is left and a deadline;
+/// but it leaves other ranges, and one generic struct for both would call the cycle and the ranging by the same
+/// name.)
 #[derive(Clone, Copy)]
-#[repr(C)]
 pub struct Switched {
     pub cycle: Cycle,
     pub deadline: u64,
@@ -19,7 +20,7 @@ pub struct Switched {
 pub fn advance(before: Cycle) -> Cycle
     ensures { result ≡ advance before }
 {
-    let phase = (before.phase % 4 + 1) % 4;
+    let phase = before.phase.wrapping_add(1) % 4;
     let stat = cycle(phase);
     let skip = if stat == before.stat {
         before.skip
@@ -35,11 +36,11 @@ pub fn advance(before: Cycle) -> Cycle
 }
 
 // The other of an even phase and the odd one after it.
-#[tactic(auto, unfolding(crate::specs::Cycle::other_phase))]
+#[tactic(auto, using(crate::proofs::Turned::turned))]
 fn other_phase(phase: u8) -> u8
     ensures { result ≡ other_phase phase }
 {
-    if phase % 2 == 0 { phase + 1 } else { phase - 1 }
+    phase ^ 1
 }
 
 /// The alternating method: the other row; the V row settles longer, and its first four results are

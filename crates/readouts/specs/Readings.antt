@@ -1,5 +1,5 @@
 -- `reading_vals` and `energy_val` of the source.
-use Rattle.std.specs.Prelude.{Bool, true, cond, not, ◌||◌, ℕ, ◌-◌, eqb, Float}
+use Rattle.std.specs.Prelude.{Bool, true, if◌then◌else◌, not, ◌||◌, ℕ, ◌-◌, eqb, Float}
 use Rattle.std.specs.Float.{nan}
 use Rattle.numbers.specs.Binary32.{◌*f◌, zero_f, one_f}
 use Rattle.tables.specs.Bounds.{at_most, entry_at}
@@ -27,7 +27,7 @@ volt_decimals vr = 4 - at_most 3 vr
 
 -- `main_si`: s in the alternating method, else p
 unfoldable pub main_si : PowerVals → Float
-main_si pv = cond pv.in_force.alt pv.load.s pv.load.p
+main_si pv = if pv.in_force.alt then pv.load.s else pv.load.p
 
 -- `ol`
 unfoldable pub any_over : Limits → Bool
@@ -41,9 +41,9 @@ v_readout pv = shown_unless pv.limits.v_ol (record { number = pv.load.v; decimal
 unfoldable pub i_format : ℕ → Float → Format
 i_format ik i =
     let u = iu_ir ik in
-    cond (eqb u.iu 0) (record { number = i *f one_f; decimals = 4 - u.ir; unit = Ampere })
-    (cond (eqb u.iu 1) (record { number = i *f thousand; decimals = 3 - u.ir; unit = Milliampere })
-    (record { number = i *f million; decimals = 2 - u.ir; unit = Microampere }))
+    if eqb u.iu 0 then record { number = i *f one_f; decimals = 4 - u.ir; unit = Ampere }
+    else if eqb u.iu 1 then record { number = i *f thousand; decimals = 3 - u.ir; unit = Milliampere }
+    else record { number = i *f million; decimals = 2 - u.ir; unit = Microampere }
 
 -- `i`
 unfoldable pub i_readout : PowerVals → Val
@@ -51,7 +51,7 @@ i_readout pv = shown_unless pv.limits.i_ol (i_format pv.ranges.ik pv.load.i)
 
 -- "never OL, the integral holds"
 unfoldable pub energy_readout : Bool → PowerVals → Val
-energy_readout va pv = shown (energy_format (cond va pv.energies.vah pv.energies.e_wh) va)
+energy_readout va pv = shown (energy_format (if va then pv.energies.vah else pv.energies.e_wh) va)
 
 unfoldable pub power_readout : PowerVals → Val
 power_readout pv = shown_unless (any_over pv.limits) (p_format (full_scale pv.ranges) (main_si pv) (not pv.in_force.alt))
@@ -59,14 +59,15 @@ power_readout pv = shown_unless (any_over pv.limits) (p_format (full_scale pv.ra
 -- `main`: "Energy (the fallback has no Wh: VAh)", else the power
 unfoldable pub main_readout : PowerVals → Val
 main_readout pv =
-    cond (eqb pv.in_force.main main_wh) (energy_readout pv.in_force.alt pv)
-    (cond (eqb pv.in_force.main main_vah) (energy_readout true pv) (power_readout pv))
+    if eqb pv.in_force.main main_wh then energy_readout pv.in_force.alt pv
+    else if eqb pv.in_force.main main_vah then energy_readout true pv
+    else power_readout pv
 
 -- `(main, v, i, if ol { 0.0 } else { main_si })`
 unfoldable pub reading_vals : PowerVals → Readouts
 reading_vals pv =
-    record { main = main_readout pv; v = v_readout pv; i = i_readout pv; si = cond (any_over pv.limits) zero_f (main_si pv) }
+    record { main = main_readout pv; v = v_readout pv; i = i_readout pv; si = if any_over pv.limits then zero_f else main_si pv }
 
 -- `energy_val`: "the energy (Wh; VAh in the fallback)" where `main` is MAIN_P, and P for every other number, also one that is none of the three. The source takes P from `reading_vals` with main P: the law `box_of_power` (proofs/Stated.antt) says that this is the same
 unfoldable pub energy_val : PowerVals → Val
-energy_val pv = cond (eqb pv.in_force.main main_p) (energy_readout pv.in_force.alt pv) (power_readout pv)
+energy_val pv = if eqb pv.in_force.main main_p then energy_readout pv.in_force.alt pv else power_readout pv

@@ -8,16 +8,15 @@ use crate::readings::{any_over, full_scale, main_si};
 use formats::format::{Format, p_format};
 use formats::readout::{Val, tens};
 use formats::units::Unit;
-use tables::bounds::at_most;
 use values::power_vals::PowerVals;
 
 /// The mode byte of DC V: 8 times 5 for an automatic range, else 8 times one more than the V range,
 /// where one above 3 counts as 3.
-#[tactic(auto, using(tables::proofs::Held::at_most_law), unfolding(crate::specs::Bluetooth::bt_mode_byte))]
+#[tactic(auto, unfolding(crate::specs::Bluetooth::bt_mode_byte, tables::specs::Bounds::at_most))]
 pub fn bt_mode_byte(v_auto: bool, vr: u8) -> u8
     ensures { result ≡ bt_mode_byte v_auto vr }
 {
-    let range = if v_auto { 5 } else { at_most(3, vr) + 1 };
+    let range = if v_auto { 5 } else { vr.min(3) + 1 };
     range * 8
 }
 
@@ -65,19 +64,17 @@ fn decimals_that_fit(x: f32, most: u8) -> Fitted
     ensures { result ≡ decimals_that_fit x (tens most) most }
 {
     let mut k = tens(most);
-    for dropped in 0..most {
+    for dec in (1..=most).rev() {
         if !too_large(x, k) {
-            return Fitted {
-                k,
-                dec: most - dropped,
-            };
+            return Fitted { k, dec };
         }
         k *= 0.1;
     }
     Fitted { k, dec: 0 }
 }
 
-// x, or 65534 with its sign where k times x is too large.
+// The figure that is sent (a quantity, and not the number of a kind): x, or where k times x is too large for the protocol
+// 65534 with the sign of x.
 #[tactic(auto, unfolding(crate::specs::Bluetooth::held_number))]
 fn held_number(x: f32, k: f32) -> f32
     ensures { result ≡ held_number x k }

@@ -10,14 +10,14 @@ use tables::constants::{JOB_VCAL, JOB_ZERO};
 use values::vals::pw_vals;
 
 /// Nothing while off; a zero or a gain job while one runs; else nothing where there is a reading, and
-/// where there is none the current still being ranged, with the volts where they are measured.
-#[derive(Clone, Copy)]
+/// where there is none the current still being ranged, with the volts where they are measured. Four cases, and so no `Option`;
+/// no `Eq`, since a `Val` holds a float.
+#[derive(Clone, Copy, Debug, PartialEq)]
 pub enum Partial {
     Nothing,
     Zeroing,
     Calibrating,
-    Ranging,
-    RangingAt(Val),
+    Ranging(Option<Val>),
 }
 
 /// The number of the text: 0 none, 1 zeroing, 2 V calibration, 3 I ranging.
@@ -32,22 +32,18 @@ impl From<Partial> for u8 {
             Partial::Nothing => 0,
             Partial::Zeroing => 1,
             Partial::Calibrating => 2,
-            Partial::Ranging | Partial::RangingAt(_) => 3,
+            Partial::Ranging(_) => 3,
         }
     }
 }
 
-// Ranging, with the volts so far where they are measured and no job runs.
+// The volts so far, where they are measured and no job runs.
 #[tactic(auto, unfolding(crate::specs::Partial::volts_so_far))]
-fn volts_so_far(pw: Pw) -> Partial
+fn volts_so_far(pw: Pw) -> Option<Val>
     ensures { result ≡ volts_so_far pw }
 {
-    if has_seen(pw.cycle.seen, Quantity::Voltage) && pw.job.job == 0 {
-        let v = numbers::hypot(pw.parts.v_ac, pw.parts.v_dc);
-        Partial::RangingAt(Val::new(v, volt_decimals(pw.ranges.vr), Unit::Volt))
-    } else {
-        Partial::Ranging
-    }
+    let to_show = has_seen(pw.cycle.seen, Quantity::Voltage) && pw.job.job == 0;
+    to_show.then(|| Val::new(pw.parts.volts(), volt_decimals(pw.ranges.vr), Unit::Volt))
 }
 
 #[tactic(auto, unfolding(crate::specs::Partial::ranging))]
@@ -56,7 +52,7 @@ fn ranging(pw: Pw) -> Partial
 {
     match pw_vals(pw) {
         Some(_) => Partial::Nothing,
-        None => volts_so_far(pw),
+        None => Partial::Ranging(volts_so_far(pw)),
     }
 }
 

@@ -6,7 +6,6 @@ use formats::format::{Format, energy_format, p_format};
 use formats::readout::Val;
 use formats::units::Unit;
 use state::Ranges;
-use tables::bounds::at_most;
 use tables::constants::{MAIN_P, MAIN_VAH, MAIN_WH};
 use tables::lookups::{i_lim, v_lim};
 use tables::ranges::iu_ir;
@@ -31,11 +30,11 @@ pub(crate) fn full_scale(ranges: Ranges) -> f32
 }
 
 /// The decimals of the volts in a V range.
-#[tactic(auto, using(tables::proofs::Held::at_most_law), unfolding(crate::specs::Readings::volt_decimals))]
+#[tactic(auto, unfolding(crate::specs::Readings::volt_decimals, tables::specs::Bounds::at_most))]
 pub(crate) fn volt_decimals(vr: u8) -> u8
     ensures { result ≡ volt_decimals vr }
 {
-    4 - at_most(3, vr)
+    4 - vr.min(3)
 }
 
 /// The power, or the apparent power in the alternating method.
@@ -95,7 +94,8 @@ fn i_readout(pv: PowerVals) -> Val
     i_format(pv.ranges.ik, pv.load.i).shown_unless(pv.limits.i_ol)
 }
 
-// The apparent energy where `va`, else the active one. It is never over: the integral holds.
+// The apparent energy where `va`, else the active one. It is never over: the integral holds. `va` is the mark of the source's
+// `energy_format`, which is handed on; a function for each energy would have the same body twice.
 #[tactic(auto, unfolding(crate::specs::Readings::energy_readout))]
 fn energy_readout(va: bool, pv: PowerVals) -> Val
     ensures { result ≡ energy_readout va pv }

@@ -1,10 +1,9 @@
 -- The numbers of document 01's table "What the meter says back".
-use Rattle.std.specs.Prelude.{ℕ}
+use Rattle.std.specs.Prelude.{ℕ, Result, Ok, Err}
 use Rattle.refusals.specs.declared.Refusal.{Refusal}
-use Rattle.refusals.specs.declared.Refusal.TheVariants.{Done, Off, Busy, Method, Frame, Late, Full, Description, Words}
+use Rattle.refusals.specs.declared.Refusal.TheVariants.{Off, Busy, Method, Frame, Late, Full, Description, Words}
 
 abbrev pub refusal_number : Refusal → ℕ
-refusal_number Done = 0
 refusal_number Off = 1
 refusal_number Busy = 2
 refusal_number Method = 3
@@ -13,3 +12,8 @@ refusal_number Late = 5
 refusal_number Full = 6
 refusal_number Description = 7
 refusal_number Words = 8
+
+-- "0, done", or the number of the refusal
+abbrev pub told_number : {A : Type 0} → Result A Refusal → ℕ
+told_number (Ok x) = 0
+told_number (Err n) = refusal_number n

@@ -1,3 +1,4 @@
 pub mod Bits
 pub mod Stated
 pub mod Marks
+pub mod Ohms

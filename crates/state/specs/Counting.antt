@@ -1,5 +1,5 @@
 -- Times and counters, each held so that it cannot overflow: a record that a C host hands in may hold any numbers.
-use Rattle.std.specs.Prelude.{cond, ℕ, ◌+◌, ◌-◌, ◌^◌, ltb}
+use Rattle.std.specs.Prelude.{if◌then◌else◌, ℕ, ◌+◌, ◌-◌, ◌^◌, ltb}
 use Rattle.tables.specs.Bounds.{at_most}
 
 -- Rust's `now.saturating_sub(since)`, in ms. The logic's `◌-◌` stops at 0
@@ -12,4 +12,4 @@ deadline now settle = at_most (2 ^ 64 - 1) (now + settle)
 
 -- one more in a counter of 8 bits, which stays at its end
 unfoldable pub count_up : ℕ → ℕ
-count_up n = cond (ltb n 255) (n + 1) n
+count_up n = if ltb n 255 then n + 1 else n

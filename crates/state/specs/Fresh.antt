@@ -1,5 +1,5 @@
 -- `Pw::new` of the source: the meter just made. Five fields are not in the source's `Pw`: `description` and `calibration` are what the meter is made with, `t_poll` and `barred` are dmm.rs's, `used` is ours; docs/DECISIONS.md lists the fields of the source that nothing in scope reads.
-use Rattle.std.specs.Prelude.{ℕ, Option, None, Some, true, false, cond, pos, replicate}
+use Rattle.std.specs.Prelude.{ℕ, Option, None, Some, true, false, if◌then◌else◌, pos, replicate}
 use Rattle.numbers.specs.Binary32.{zero_f}
 use Rattle.tables.specs.declared.calibration.Calibration.{Calibration}
 use Rattle.tables.specs.declared.description.Description.{Description}
@@ -34,7 +34,7 @@ stamp_of None = no_time
 stamp_of (Some t) = at_time t
 
 abbrev pub time_in : Stamp → Option ℕ
-time_in s = cond s.set (Some s.at) None
+time_in s = if s.set then Some s.at else None
 
 abbrev pub fresh_mode : Mode
 fresh_mode = record { on = false; alt = false; coup = coup_dc; dc = false; cal_req = false }

@@ -1,5 +1,5 @@
 -- The source's `seen`: "Parts measured since the last (re)start: 1 P, 2 V, 4 I".
-use Rattle.std.specs.Prelude.{Bool, cond, ◌&&◌, ℕ, ◌+◌, ◌/◌, ◌%◌, eqb}
+use Rattle.std.specs.Prelude.{Bool, if◌then◌else◌, ◌&&◌, ℕ, ◌+◌, ◌/◌, ◌%◌, eqb}
 use Rattle.state.specs.declared.Quantity.{Quantity}
 use Rattle.state.specs.declared.Quantity.TheVariants.{Power, Voltage, Current}
 
@@ -14,7 +14,7 @@ has_seen seen q = eqb (seen / bit_of q % 2) 1
 
 -- `seen | bit`
 unfoldable pub also_seen : ℕ → Quantity → ℕ
-also_seen seen q = cond (has_seen seen q) seen (seen + bit_of q)
+also_seen seen q = if has_seen seen q then seen else seen + bit_of q
 
 -- `seen & 6 == 6`
 unfoldable pub both_seen : ℕ → Bool

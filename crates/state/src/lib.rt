@@ -1,9 +1,12 @@
 //! The meter's state: `Pw` by value, made of one struct for each group of fields that change together,
-//! under the source's names. All are laid out as in C, so that a C host can keep one. NEW is what each
-//! holds in a meter just made.
+//! under the source's names. All are laid out as in C, so that a C host can keep one. So what an enum could
+//! name is a number, of which each has a meaning (`coup`, `phase`, `stat`, `seen`, `barred`, `cal`, `cal_res`,
+//! `job`, `job_res`, `job_last`, `main`, `r20`, `r21`), and what an `Option` could be is a mark beside its
+//! value (`set`, `zero_ok`). NEW is what each holds in a meter just made.
 #![tactic(auto)]
 
 ghost use Rattle.std.specs.Prelude.{◌≡◌};
+ghost use Rattle.numbers.specs.Root.{hypot_of};
 ghost use Rattle.state.specs.Fresh.{at_time, stamp_of, time_in, new_pw};
 ghost use Rattle.state.specs.Counting.{elapsed, deadline, count_up};
 ghost use Rattle.state.specs.Seen.{bit_of, has_seen, also_seen, both_seen};
@@ -89,8 +92,8 @@ pub struct Ranges {
 }
 
 impl Ranges {
-    // 1000 V and 10 A, both automatic.
-    const NEW: Ranges = Ranges {
+    /// 1000 V and 10 A, both automatic.
+    pub const NEW: Ranges = Ranges {
         vr: 3,
         ik: 5,
         v_auto: true,
@@ -124,12 +127,12 @@ impl Cycle {
     };
 }
 
-/// The three bits of `seen`.
+/// What is marked in `seen` as measured, with its bit there.
 #[derive(Clone, Copy, Debug, PartialEq, Eq)]
 pub enum Quantity {
-    Power,
-    Voltage,
-    Current,
+    Power = 1,
+    Voltage = 2,
+    Current = 4,
 }
 
 /// The smoothed values: W, V and A by AC and DC part; `vac_dc` is the AC volts in DC coupling.
@@ -153,6 +156,20 @@ impl Parts {
         i_dc: 0.0,
         vac_dc: 0.0,
     };
+
+    /// The volts, AC and DC together.
+    pub fn volts(&self) -> f32
+        ensures { result ≡ hypot_of self.now.v_ac self.now.v_dc }
+    {
+        numbers::hypot(self.v_ac, self.v_dc)
+    }
+
+    /// The amperes, AC and DC together.
+    pub fn amperes(&self) -> f32
+        ensures { result ≡ hypot_of self.now.i_ac self.now.i_dc }
+    {
+        numbers::hypot(self.i_ac, self.i_dc)
+    }
 }
 
 /// The powers of the next interval.
@@ -238,7 +255,8 @@ impl PhaseCal {
 }
 
 /// The stored zeros (`zx` and `zd` by current range) with their mark, and the stored gain of each V
-/// range, 0.0 where the factory's counts.
+/// range, 0.0 where the factory's counts. Arrays side by side, and a mark beside the zeros, since a C host
+/// keeps them.
 #[derive(Clone, Copy)]
 #[repr(C)]
 pub struct Corrections {
@@ -261,7 +279,8 @@ impl Corrections {
 }
 
 /// The running job (0 none), what it has measured, and the ranges and marks found at its start.
-/// `used` counts the ready frames that it has used.
+/// `used` counts the ready frames that it has used. Arrays side by side, and numbers for the job and its
+/// result, since a C host keeps them; `Kind::from` and `result_number` of `steps` read and write these.
 #[derive(Clone, Copy)]
 #[repr(C)]
 pub struct Job {
@@ -327,7 +346,8 @@ impl Comparator {
 /// The sixteen latest conversions, the one of number n at n modulo 16: which result it was (R34 in method
 /// B; 1 and 2 the alternating voltage and current; 3 and 4 the DC row's, where AD1 stands in `lpf`),
 /// whether it was dropped, its codes, and the ms since the RMS and LPF result before it, held to 65535
-/// (0 for AD1). `ring_k` is the next number, `t_res` the last RMS and LPF result's time.
+/// (0 for AD1). `ring_k` is the next number, `t_res` the last RMS and LPF result's time. Document 01 asks
+/// for these arrays side by side, and a C host keeps them.
 #[derive(Clone, Copy)]
 #[repr(C)]
 pub struct Ring {
@@ -402,13 +422,15 @@ impl Pw {
 
     /// A meter with this description and these words, just made: the source's `Pw::new`, and beside it
     /// nothing barred, no frame yet, and no ready frame used.
+    #[tactic(auto, using(crate::proofs::Ohms::ohms), unfolding(crate::specs::Fresh::new_pw))]
     pub fn new(description: Description, calibration: Calibration) -> Pw
         ensures { result ≡ new_pw description calibration }
     {
-        let mut made = Pw::PLAIN;
-        made.description = description;
-        made.calibration = calibration;
-        made
+        Pw {
+            description,
+            calibration,
+            ..Pw::PLAIN
+        }
     }
 }
 
@@ -435,37 +457,32 @@ pub fn count_up(n: u8) -> u8
     n.saturating_add(1)
 }
 
-// Functions of a bare byte, since `seen` is one in a record that a C host keeps.
-
 /// The bit of `seen` that stands for a quantity.
-#[tactic(auto, unfolding(crate::specs::Seen::bit_of))]
-pub fn bit_of(q: Quantity) -> u8
-    ensures { result ≡ bit_of q }
-{
-    match q {
-        Quantity::Power => 1,
-        Quantity::Voltage => 2,
-        Quantity::Current => 4,
+impl From<Quantity> for u8 {
+    ghost from_gives = { λ q bit. bit ≡ bit_of q };
+
+    #[tactic(auto, unfolding(crate::specs::Seen::bit_of))]
+    fn from(q: Quantity) -> u8 {
+        q as u8
     }
 }
 
+// Functions of a bare byte, since `seen` is one in a record that a C host keeps.
+
 /// Whether a quantity is marked as measured.
-#[tactic(auto, using(crate::proofs::Bits::positive), unfolding(crate::specs::Seen::has_seen))]
+#[tactic(auto, using(crate::proofs::Bits::tested))]
 pub fn has_seen(seen: u8, q: Quantity) -> bool
     ensures { result ≡ has_seen seen q }
 {
-    seen / bit_of(q) % 2 == 1
+    seen & u8::from(q) != 0
 }
 
 /// The marks, with this quantity's set.
-#[tactic(auto, using(crate::proofs::Bits::still_fits), unfolding(crate::specs::Seen::also_seen))]
+#[tactic(auto, using(crate::proofs::Bits::marked))]
 pub fn also_seen(seen: u8, q: Quantity) -> u8
     ensures { result ≡ also_seen seen q }
 {
-    if has_seen(seen, q) {
-        return seen;
-    }
-    seen + bit_of(q)
+    seen | u8::from(q)
 }
 
 /// Whether voltage and current are marked.

@@ -1,5 +1,5 @@
 -- What each step of a job measures, and how: `pw_job_step` of the source, the tests of `pw_job_poll` before its readings, and `stat` as `pw_write_config` sets it.
-use Rattle.std.specs.Prelude.{Bool, true, false, cond, ℕ, ◌%◌, ltb, eqb}
+use Rattle.std.specs.Prelude.{Bool, true, false, if◌then◌else◌, ℕ, ◌%◌, ltb, eqb}
 use Rattle.codes.specs.Flags.{holds_ad1, holds_rms_lpf}
 use Rattle.tables.specs.Constants.{job_zero, job_vcal, job_skip, alt_v_skip, settle_ms, vcal_dc_settle_ms, vcal_ac_settle_ms, r34_xx, r34_yy}
 use Rattle.state.specs.declared.Ranges.{Ranges}
@@ -15,7 +15,7 @@ kind_number Gain = job_vcal
 
 -- the kind of a running job by its number, which is 1 or 2; any other counts as the gain job's
 unfoldable pub kind_of : ℕ → Kind
-kind_of job = cond (eqb job job_zero) Zero Gain
+kind_of job = if eqb job job_zero then Zero else Gain
 
 -- the order of a job's steps: the gain job has one for each kind of voltage
 pub data Layout : Type 0 where
@@ -30,9 +30,9 @@ layout_of Gain false = ac_steps
 
 -- "The zero job has 13 steps": LPF of the current by range, AD1 by range (`(6..12).contains(&job_step)`), LPF of the voltage. "The gain job has 4, raw and reference in turn"
 abbrev pub place_of : Layout → ℕ → Place
-place_of zero_steps s = cond (ltb s 6) ZeroX (cond (ltb s 12) ZeroD ZeroY)
-place_of dc_steps s = cond (eqb (s % 2) 0) Raw RefDc
-place_of ac_steps s = cond (eqb (s % 2) 0) Raw RefAc
+place_of zero_steps s = if ltb s 6 then ZeroX else if ltb s 12 then ZeroD else ZeroY
+place_of dc_steps s = if eqb (s % 2) 0 then Raw else RefDc
+place_of ac_steps s = if eqb (s % 2) 0 then Raw else RefAc
 
 -- "Each step drops 1 ready frame (4 for the AC reference)": `JOB_SKIP`, `ALT_V_SKIP`
 abbrev pub drops_of : Place → ℕ
@@ -72,5 +72,5 @@ ready RefAc flags = holds_rms_lpf flags
 
 -- `if job == JOB_ZERO && job_step < 12 { ik = job_step % 6 }`
 abbrev pub step_ranges : Kind → ℕ → Ranges → Ranges
-step_ranges Zero s r = record r { ik = cond (ltb s 12) (s % 6) r.ik }
+step_ranges Zero s r = record r { ik = if ltb s 12 then s % 6 else r.ik }
 step_ranges Gain s r = r

@@ -1,5 +1,5 @@
 -- What a ready frame says at its step: the readings of `pw_job_poll` in the source's order of operations, each rounded to binary32, and the zero job's test for a signal.
-use Rattle.std.specs.Prelude.{Bool, false, cond, ◌||◌, List, ℕ, ◌+◌, ◌-◌, ◌*◌, ltb, ℤ, pos, nat_abs, ◌-ℤ◌, get_or, Float, Result, Ok, Err}
+use Rattle.std.specs.Prelude.{Bool, false, if◌then◌else◌, ◌||◌, List, ℕ, ◌+◌, ◌-◌, ◌*◌, ltb, ℤ, pos, nat_abs, ◌-ℤ◌, get_or, Float, Result, Ok, Err}
 use Rattle.std.specs.Float.{nan}
 use Rattle.std.specs.Float.Ieee.{lt}
 use Rattle.numbers.specs.Binary32.{◌-f◌, ◌*f◌, ◌/f◌, zero_f, max_of}
@@ -27,12 +27,12 @@ pub data Zeros : Type 0 where
 
 -- "zeros with their mark": none while `zero_ok` is off
 unfoldable pub zeros_in : Corrections → Zeros
-zeros_in c = cond c.zero_ok (kept c.zx c.zd c.zy) none
+zeros_in c = if c.zero_ok then kept c.zx c.zd c.zy else none
 
 -- "the old zero (0 while none is stored)" of a step of the zero job. The source has it from the job's copies of `zx` and `zd`, which are the stored ones until the step has ended
 abbrev pub old_of : Zeros → ℕ → ℤ
 old_of none s = pos 0
-old_of (kept zx zd zy) s = cond (ltb s 6) (get_or zx s (pos 0)) (cond (ltb s 12) (get_or zd (s - 6) (pos 0)) zy)
+old_of (kept zx zd zy) s = if ltb s 6 then get_or zx s (pos 0) else if ltb s 12 then get_or zd (s - 6) (pos 0) else zy
 
 -- the voltage's, which the gain job takes off
 abbrev pub zy_of : Zeros → ℤ
@@ -59,7 +59,7 @@ ad1_volts c vr ad1 =
 
 -- the DC reference: `if v < 0.0 { v *= DCV_NEGK[r] }`
 unfoldable pub dc_reference : Calibration → ℕ → ℤ → Float
-dc_reference c vr ad1 = cond (lt (ad1_volts c vr ad1) zero_f) (ad1_volts c vr ad1 *f entry_at nan dcv_negk vr) (ad1_volts c vr ad1)
+dc_reference c vr ad1 = if lt (ad1_volts c vr ad1) zero_f then ad1_volts c vr ad1 *f entry_at nan dcv_negk vr else ad1_volts c vr ad1
 
 -- the AC reference: `(sq * K_ACV[r] * CODE * cal(0x34 + 4 r, 1.0) - cal(0x44 + 4 r, 0.0)).max(0.0)`
 unfoldable pub ac_reference : Calibration → ℕ → Float → Float
@@ -95,4 +95,4 @@ signal RefAc old f = false
 
 -- what a frame counts for at step s: `JR_SIGNAL` where it is a signal, else its reading
 abbrev pub counted_reading : Place → ℕ → Calibration → ℕ → Zeros → Codes → Result Reading JobError
-counted_reading p s c vr z f = cond (signal p (old_of z s) f) (Err Signal) (Ok (reading_of p c vr z f))
+counted_reading p s c vr z f = if signal p (old_of z s) f then Err Signal else Ok (reading_of p c vr z f)

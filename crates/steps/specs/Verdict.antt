@@ -1,5 +1,5 @@
 -- What a step's means come to: the second half of `pw_job_poll`.
-use Rattle.std.specs.Prelude.{Bool, not, cond, ◌||◌, ℕ, ℤ, Float, Result, Ok, Err}
+use Rattle.std.specs.Prelude.{Bool, not, if◌then◌else◌, ◌||◌, ℕ, ℤ, Float, Result, Ok, Err}
 use Rattle.std.specs.Float.{nan, binary32}
 use Rattle.std.specs.Float.Ieee.{lt, le, of_bits, to_signed}
 use Rattle.numbers.specs.Binary32.{◌+f◌, ◌-f◌, ◌*f◌, ◌/f◌, is_finite, abs_of}
@@ -27,11 +27,11 @@ is_dc a b = lt a (abs_of b)
 
 -- the part that counts: `if job_dc { b } else { a }`
 abbrev pub part : Bool → Float → Float → Float
-part dc a b = cond dc b a
+part dc a b = if dc then b else a
 
 -- `VCAL_MAX_DC` or `VCAL_MAX_AC`
 abbrev pub vcal_max : Bool → Float
-vcal_max dc = cond dc vcal_max_dc vcal_max_ac
+vcal_max dc = if dc then vcal_max_dc else vcal_max_ac
 
 -- core's f32::consts::SQRT_2
 abbrev pub sqrt2 : Float
@@ -46,8 +46,9 @@ unfoldable pub raw_verdict : Bool → ℕ → Float → Float → Result (Unit {
 raw_verdict dc vr a b =
     let lim = entry_at nan v_lim vr in
     let m = abs_of (part dc a b) in
-    cond (lt m (vcal_min *f lim)) (Err Small)
-    (cond (lt (vcal_max dc *f lim) m || lt (vcal_peak_max *f lim) (peak a b)) (Err Big) (Ok tt))
+    if lt m (vcal_min *f lim) then Err Small
+    else if lt (vcal_max dc *f lim) m || lt (vcal_peak_max *f lim) (peak a b) then Err Big
+    else Ok tt
 
 -- "The two ratios, their sum and its half are binary32's": `0.5 * (r0 + r1)`
 abbrev pub half_sum : Float → Float → Float
@@ -63,7 +64,7 @@ rounds_differ r0 r1 g still = not (is_finite g) || lt (vcal_spread *f abs_of g) 
 
 -- "`JR_UNSTABLE` before `JR_RANGE`", which is `!(0.9..=1.1).contains(&g)`
 unfoldable pub ratio_verdict : Float → Float → Float → Bool → Result Float JobError
-ratio_verdict r0 r1 g still = cond (rounds_differ r0 r1 g still) (Err Unstable) (cond (plausible g) (Ok g) (Err Range))
+ratio_verdict r0 r1 g still = if rounds_differ r0 r1 g still then Err Unstable else if plausible g then Ok g else Err Range
 
 -- of the two raw means and the two references
 unfoldable pub gain_verdict : Float → Float → Float → Float → Result Float JobError

@@ -4,7 +4,7 @@ ghost use Rattle.steps.specs.Error.{error_number, result_number};
 
 use tables::constants::{JR_ABORT, JR_BIG, JR_OK, JR_RANGE, JR_SIGNAL, JR_SMALL, JR_UNSTABLE};
 
-/// Why a job has ended with nothing stored.
+/// Why a job has ended with nothing stored: the error of a `Result`.
 #[derive(Clone, Copy, Debug, PartialEq, Eq)]
 pub enum JobError {
     /// a signal where a zero is measured
@@ -37,7 +37,9 @@ impl From<JobError> for u8 {
     }
 }
 
-/// The number of a job's end, as `job_res` holds it.
+/// The number of a job's end, as `job_res` holds it. (A function, since no crate may write a `From` for a `Result`.
+/// Not one function with `told_number` of refusals and `cal_number` of phase: each gives numbers of its own, this one
+/// the source's `JR_` ones.)
 pub fn result_number(end: Result<(), JobError>) -> u8
     ensures { result ≡ result_number end }
 {

@@ -9,7 +9,7 @@ use tables::constants::{
     VCAL_DC_SETTLE_MS,
 };
 
-/// The two jobs.
+/// The two jobs, by their names, which a mark would not say.
 #[derive(Clone, Copy, Debug, PartialEq, Eq)]
 pub enum Kind {
     Zero,
@@ -57,7 +57,7 @@ impl Kind {
     }
 }
 
-/// What a step measures.
+/// What a step measures: six places, and no `Option` or `Result` among them.
 #[derive(Clone, Copy, Debug, PartialEq, Eq)]
 pub enum Place {
     /// the zero of the LPF's current, in one current range
@@ -75,7 +75,7 @@ pub enum Place {
 }
 
 impl Place {
-    /// What a step measures, in a gain job by its kind of voltage.
+    /// What a step measures, in a gain job by its kind of voltage, the mark `job_dc` of the state.
     pub fn of(kind: Kind, dc: bool, step: u8) -> Place
         ensures { result ≡ place_of (layout_of kind dc) step }
     {

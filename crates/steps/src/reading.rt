@@ -6,8 +6,7 @@ use crate::error::JobError;
 use crate::place::Place;
 use codes::Codes;
 use state::Corrections;
-use tables::bounds::at_most;
-use tables::calibration::{Calibration, factor, offset};
+use tables::calibration::Calibration;
 use tables::constants::{CODE, ZERO_MAX_AD1, ZERO_MAX_LPF, ZERO_MAX_RMS};
 use tables::decided::AD1_DIV;
 use tables::lookups::{dcv_negk, k_acv, kv};
@@ -38,8 +37,8 @@ pub fn old_zero(corrections: Corrections, step: u8) -> i16
         return 0;
     }
     match step {
-        0..=5 => corrections.zx[step as usize],
-        6..=11 => corrections.zd[(step - 6) as usize],
+        0..=5 => corrections.zx[usize::from(step)],
+        6..=11 => corrections.zd[usize::from(step - 6)],
         _ => corrections.zy,
     }
 }
@@ -55,15 +54,19 @@ fn raw_reading(vr: u8, zero: i16, codes: Codes) -> Reading
     Reading { x, y }
 }
 
+// The calibration goes by value, as the state does: document 01 lends the accumulator alone. It goes beside the V
+// range, the corrections and the codes, and not in takes' `Instrument`, which holds words and corrections: that
+// brings the description too, which no step reads, and which the part of a meter that a job works on does not have.
+
 // Volts of the AD1 code by the factory's DC V words.
-#[tactic(auto, unfolding(crate::specs::Reading::ad1_volts))]
+#[tactic(auto, unfolding(crate::specs::Reading::ad1_volts, tables::specs::Bounds::at_most))]
 fn ad1_volts(calibration: Calibration, vr: u8, ad1: i32) -> f32
     ensures { result ≡ ad1_volts calibration vr ad1 }
 {
-    let k = at_most(3, vr) as u32;
+    let k = u32::from(vr.min(3));
     let code = code_less(ad1, 0);
-    let g = factor(calibration, 0x04 + 4 * k);
-    let off = offset(calibration, 0x14 + 4 * k);
+    let g = calibration.factor(0x04 + 4 * k);
+    let off = calibration.offset(0x14 + 4 * k);
     code * k_acv(vr) * (1.25 / 0.9) / AD1_DIV * g - off
 }
 
@@ -77,14 +80,15 @@ fn dc_reference(calibration: Calibration, vr: u8, ad1: i32) -> f32
     if v < 0.0 { v * k } else { v }
 }
 
-// The AC reference by the factory's AC V words.
-#[tactic(auto, unfolding(crate::specs::Reading::ac_reference))]
+// The AC reference by the factory's AC V words. (takes' `alt_volts` is the same but for the order of the products:
+// the source brackets `K_ACV * CODE` there and not here, so that the floats differ.)
+#[tactic(auto, unfolding(crate::specs::Reading::ac_reference, tables::specs::Bounds::at_most))]
 fn ac_reference(calibration: Calibration, vr: u8, root: f32) -> f32
     ensures { result ≡ ac_reference calibration vr root }
 {
-    let k = at_most(3, vr) as u32;
-    let g = factor(calibration, 0x34 + 4 * k);
-    let off = offset(calibration, 0x44 + 4 * k);
+    let k = u32::from(vr.min(3));
+    let g = calibration.factor(0x34 + 4 * k);
+    let off = calibration.offset(0x44 + 4 * k);
     numbers::max(root * k_acv(vr) * CODE * g - off, 0.0)
 }
 
@@ -121,7 +125,7 @@ fn distance(code: i32, old: i16) -> u32
 fn lpf_signal(old: i16, codes: Codes) -> bool
     ensures { result ≡ lpf_signal old codes }
 {
-    rms_root(codes.rms) > ZERO_MAX_RMS || distance(codes.lpf, old) > ZERO_MAX_LPF as u32
+    rms_root(codes.rms) > ZERO_MAX_RMS || distance(codes.lpf, old) > ZERO_MAX_LPF.unsigned_abs()
 }
 
 /// Whether a frame is a signal where the zero job wants none; the gain job has no such test.
@@ -131,12 +135,13 @@ pub fn is_signal(place: Place, old: i16, codes: Codes) -> bool
 {
     match place {
         Place::ZeroX | Place::ZeroY => lpf_signal(old, codes),
-        Place::ZeroD => distance(codes.ad1, old) > ZERO_MAX_AD1 as u32,
+        Place::ZeroD => distance(codes.ad1, old) > ZERO_MAX_AD1.unsigned_abs(),
         Place::Raw | Place::RefDc | Place::RefAc => false,
     }
 }
 
-/// What a ready frame counts for at step `step`: its reading, but where it is a signal and none may be.
+/// What a ready frame counts for at step `step`: its reading, but where it is a signal and none may be: then
+/// `Signal`.
 pub fn counted_reading(
     place: Place,
     step: u8,

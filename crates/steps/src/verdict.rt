@@ -3,12 +3,17 @@ ghost use Rattle.std.specs.Prelude.{◌≡◌};
 ghost use Rattle.steps.specs.Verdict.{zero_mean, is_dc, part, vcal_max, raw_verdict, rounds_differ, ratio_verdict, gain_verdict};
 
 use crate::error::JobError;
+use std::f32::consts::SQRT_2;
 use tables::calibration::plausible;
 use tables::constants::{VCAL_MAX_AC, VCAL_MAX_DC, VCAL_MIN, VCAL_PEAK_MAX, VCAL_SPREAD};
 use tables::lookups::v_lim;
 
-// The root of two, of core's constants.
-const SQRT_2: f32 = 1.41421356;
+/// A step's two means: a of the main values, b of the second ones.
+#[derive(Clone, Copy, Debug, PartialEq)]
+pub struct Means {
+    pub a: f32,
+    pub b: f32,
+}
 
 /// The zero of a mean: rounded half away from zero, held to 16 bits.
 #[tactic(auto, unfolding(crate::specs::Verdict::zero_mean))]
@@ -18,20 +23,8 @@ pub fn zero_mean(mean: f32) -> i16
     numbers::f32_to_i16(numbers::half_away(mean))
 }
 
-/// Whether the voltage is DC, by the AC mean a and the DC mean b of step 0.
-#[tactic(auto, unfolding(crate::specs::Verdict::is_dc))]
-pub fn is_dc(a: f32, b: f32) -> bool
-    ensures { result ≡ is_dc a b }
-{
-    numbers::abs(b) > a
-}
-
-/// The part that counts, DC or AC.
-pub fn part_of(dc: bool, a: f32, b: f32) -> f32
-    ensures { result ≡ part dc a b }
-{
-    if dc { b } else { a }
-}
+// The kind of voltage is the mark `job_dc`, which a C host keeps: for an enum in its place `vcal_max`, `part`
+// and `raw_verdict` would need it made of the mark, and the mark made of it, at each raw step.
 
 // How much of the range the part that counts may fill.
 fn vcal_max(dc: bool) -> f32
@@ -40,21 +33,38 @@ fn vcal_max(dc: bool) -> f32
     if dc { VCAL_MAX_DC } else { VCAL_MAX_AC }
 }
 
-/// The verdict on the means of a raw step in the V range `vr`: small is tested before big.
-#[tactic(auto, unfolding(crate::specs::Verdict::raw_verdict))]
-pub fn raw_verdict(dc: bool, vr: u8, a: f32, b: f32) -> Result<(), JobError>
-    ensures { result ≡ raw_verdict dc vr a b }
-{
-    let lim = v_lim(vr);
-    let m = numbers::abs(part_of(dc, a, b));
-    let peak = numbers::abs(b) + SQRT_2 * numbers::abs(a);
-    if m < VCAL_MIN * lim {
-        return Err(JobError::Small);
+impl Means {
+    /// Whether the voltage is DC, by the AC mean a and the DC mean b of step 0.
+    #[tactic(auto, unfolding(crate::specs::Verdict::is_dc))]
+    pub fn is_dc(self) -> bool
+        ensures { result ≡ is_dc self.a self.b }
+    {
+        numbers::abs(self.b) > self.a
     }
-    if m > vcal_max(dc) * lim || peak > VCAL_PEAK_MAX * lim {
-        return Err(JobError::Big);
+
+    /// The part that counts, DC or AC.
+    pub fn part(self, dc: bool) -> f32
+        ensures { result ≡ part dc self.a self.b }
+    {
+        if dc { self.b } else { self.a }
     }
-    Ok(())
+
+    /// The verdict on the means of a raw step in the V range `vr`: small is tested before big.
+    #[tactic(auto, unfolding(crate::specs::Verdict::raw_verdict))]
+    pub fn raw_verdict(self, dc: bool, vr: u8) -> Result<(), JobError>
+        ensures { result ≡ raw_verdict dc vr self.a self.b }
+    {
+        let lim = v_lim(vr);
+        let m = numbers::abs(self.part(dc));
+        let peak = numbers::abs(self.b) + SQRT_2 * numbers::abs(self.a);
+        if m < VCAL_MIN * lim {
+            return Err(JobError::Small);
+        }
+        if m > vcal_max(dc) * lim || peak > VCAL_PEAK_MAX * lim {
+            return Err(JobError::Big);
+        }
+        Ok(())
+    }
 }
 
 // Whether the two rounds differ, by their ratios r0 and r1, the half sum g of these, which must be

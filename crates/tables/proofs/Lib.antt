@@ -7,4 +7,5 @@ pub mod Walk
 pub mod WindowRule
 pub mod Offsets
 pub mod Nearest
+pub mod Tables
 pub mod NoNumber

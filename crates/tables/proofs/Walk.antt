@@ -1,5 +1,4 @@
--- A walk over a table: its codes, which have four bits, and the window of two walks.
-use mathlib.Core.Path.{◌≡◌, sym, ap, ◌∙◌, subst}
+-- A walk over a table: its codes have four bits, and so has the picked one.
 use mathlib.Core.Bool.{Bool, true, false, cond}
 use mathlib.Core.List.{List}
 use Prim.Native.Nat.{ℕ, zero, suc, ◌<◌}
@@ -12,7 +11,7 @@ use Rattle.tables.specs.declared.window.Side.{Side}
 use Rattle.tables.specs.declared.window.Side.TheVariants.{Upper, Lower}
 use Rattle.tables.specs.declared.window.Entry.{Entry}
 use Rattle.std.specs.Prelude.{Option, Some}
-use Rattle.tables.specs.Window.{codes, levels, away, nearer_than, clears, picked, entry_of, walk, margin, nearest, FourBits, joined, cmp_window}
+use Rattle.tables.specs.Window.{codes, nearer_than, clears, picked, entry_of, walk, FourBits}
 
 -- ---- every code of a table has four bits, and so has the picked one
 abbrev small : ℕ → Bool
@@ -24,28 +23,15 @@ codes_small Upper = tt
 codes_small Lower = tt
 
 either : (t u : Bool) (e : Entry) (b : Option Entry) → e.code < 16 → FourBits b → FourBits (cond t (cond u (Some e) b) b)
+unfolding FourBits
 either true true e b h f = h
 either true false e b h f = f
 either false u e b h f = f
 
 pub four_bits : (side : Side) (limit : Float) (vs : List Float) (n : ℕ) → FourBits (walk side limit (codes side) vs n)
-unfolding walk picked
+unfolding walk picked FourBits
 four_bits side limit vs zero = tt
 four_bits side limit vs (suc n) =
     let b = walk side limit (codes side) vs n in
     let v = get_or vs n nan in
     either (clears side limit v) (nearer_than side v b) (entry_of (codes side) vs n) b (ltb→lt (get_or (codes side) n 0) 16 (each small 0 (codes side) n (codes_small side) (λ l. tt))) (four_bits side limit vs n)
-
--- ---- the window of the two walks
-abbrev pub Picks : Side → Float → Option Entry → Type 0
-Picks side limit pick = pick ≡ walk side limit (codes side) (levels side) 12
-
-pub picks_four_bits : (side : Side) (limit : Float) (pick : Option Entry) → Picks side limit pick → FourBits pick
-picks_four_bits side limit pick e = subst FourBits (sym e) (four_bits side limit (levels side) 12)
-
-pub of_walks : (c a x y : Float) (up down : Option Entry) → x ≡ away Upper c margin → y ≡ away Lower c margin → Picks Upper x up → Picks Lower y down → joined c a up down ≡ cmp_window c a
-unfolding cmp_window
-of_walks c a x y up down p q e f =
-    let u : up ≡ nearest Upper c = e ∙ ap (λ (z : Float). walk Upper z (codes Upper) (levels Upper) 12) p in
-    let d : down ≡ nearest Lower c = f ∙ ap (λ (z : Float). walk Lower z (codes Lower) (levels Lower) 12) q in
-    ap (λ (z : Option Entry). joined c a z down) u ∙ ap (joined c a (nearest Upper c)) d

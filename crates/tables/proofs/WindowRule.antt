@@ -216,7 +216,7 @@ module _ (c a : Float) where
   Cases = ((cmp_window c a ≡ None) × (NoEntryServes Upper c a ⊎ NoEntryServes Lower c a)) ⊎ ((w : ℕ) × (cmp_window c a ≡ Some w) × Pair c a w)
 
   cases : Cases
-  unfolding cmp_window
+  unfolding cmp_window Pair
   cases = go (outcome Upper c a) (outcome Lower c a)
     where
       go : Outcome Upper c a (nearest Upper c) → Outcome Lower c a (nearest Lower c)
@@ -233,10 +233,12 @@ module _ (c a : Float) where
 
   -- where there is a pair, an entry serves on either side
   clash : (w : ℕ) → Pair c a w → NoEntryServes Upper c a ⊎ NoEntryServes Lower c a → ⊥
+  unfolding Pair
   clash w p (inl n) = n p.0 p.2.0
   clash w p (inr n) = n p.1 p.3.0
 
   one_pair : (v w : ℕ) → Pair c a v → Pair c a w → v ≡ w
+  unfolding Pair
   one_pair v w p q =
       p.4
       ∙ ap (λ (x : ℕ). get_or (codes Upper) x 0 * 16 + get_or (codes Lower) p.1 0) (same Upper c a p.0 q.0 p.2 q.2)

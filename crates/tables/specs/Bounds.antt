@@ -1,10 +1,10 @@
 -- Rust's `min` with a constant and its `(least..=most).contains(&x)`; and a table read at an index that is held.
-use Rattle.std.specs.Prelude.{Bool, cond, ◌&&◌, List, ℕ, ◌-◌, ltb, length, get_or, Float}
+use Rattle.std.specs.Prelude.{Bool, if◌then◌else◌, ◌&&◌, List, ℕ, ◌-◌, ltb, length, get_or, Float}
 use Rattle.std.specs.Float.Ieee.{le}
 
 -- n, but `most` where n is above it
 unfoldable pub at_most : ℕ → ℕ → ℕ
-at_most most n = cond (ltb n most) n most
+at_most most n = if ltb n most then n else most
 
 -- entry k of a table, or its last one where k is past the end; `none` stands for an entry of an empty table
 unfoldable pub entry_at : {A : Type 0} → A → List A → ℕ → A

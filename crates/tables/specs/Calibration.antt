@@ -1,6 +1,6 @@
 -- The calibration words, by document 01: "Calibration is 73 words of 32 bits and a valid mark; `cal` takes the word at byte offset, or its default if the mark is off, or the value
 -- is not finite or not below 1.0e6 in size." Refusal 8: "calibration words not 73".
-use Rattle.std.specs.Prelude.{Bool, false, ◌&&◌, cond, List, ℕ, ◌/◌, eqb, ltb, length, get_or, replicate, Float, Result, Ok, Err}
+use Rattle.std.specs.Prelude.{Bool, false, ◌&&◌, if◌then◌else◌, List, ℕ, ◌/◌, eqb, ltb, length, get_or, replicate, Float, Result, Ok, Err}
 use Rattle.std.specs.Float.{binary32}
 use Rattle.std.specs.Float.Ieee.{lt, of_bits}
 use Rattle.numbers.specs.Binary32.{zero_f, one_f, is_finite, abs_of}
@@ -14,7 +14,7 @@ no_calibration = record { words = replicate 73 0; valid = false }
 
 -- the lent words with their mark, or refusal 8
 unfoldable pub calibration_of : List ℕ → Bool → Result Calibration Refusal
-calibration_of words valid = cond (eqb (length words) 73) (Ok (record { words = words; valid = valid })) (Err refusal.Words)
+calibration_of words valid = if eqb (length words) 73 then Ok (record { words = words; valid = valid }) else Err refusal.Words
 
 -- the 32 bits of the word that has byte `at`: a word has four bytes
 abbrev pub word_at : List ℕ → ℕ → ℕ
@@ -31,7 +31,7 @@ usable x = is_finite x && lt (abs_of x) million
 unfoldable pub cal : Calibration → ℕ → Float → Float
 cal c at default =
     let x = of_bits binary32 (word_at c.words at) in
-    cond (c.valid && ltb (at / 4) 73 && usable x) x default
+    if c.valid && ltb (at / 4) 73 && usable x then x else default
 
 -- a word that the source multiplies or divides by, with its default 1.0; and one that it takes away, with its default 0.0
 unfoldable pub factor : Calibration → ℕ → Float

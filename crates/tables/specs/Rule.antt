@@ -29,5 +29,5 @@ abbrev pub NearestServes : Side → Float → Float → ℕ → Type 0
 NearestServes side c a j = Serves side c a j × ((i : ℕ) → Serves side c a i → as_near side (level side j) (level side i) ≡ true)
 
 -- w is made of the codes of the nearest pair
-abbrev pub Pair : Float → Float → ℕ → Type 0
+unfoldable pub Pair : Float → Float → ℕ → Type 0
 Pair c a w = (i : ℕ) × (j : ℕ) × NearestServes Upper c a i × NearestServes Lower c a j × (w ≡ get_or (codes Upper) i 0 * 16 + get_or (codes Lower) j 0)

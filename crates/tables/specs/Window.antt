@@ -1,5 +1,5 @@
 -- `cmp_window` of the source: the comparator's two tables, and one rule over both. The definition is by two separate walks, one over each table.
-use Rattle.std.specs.Prelude.{Bool, true, cond, ◌&&◌, List, [], ◌∷◌, ℕ, zero, suc, ◌+◌, ◌*◌, ◌<◌, get_or, Float, Option, Some, None}
+use Rattle.std.specs.Prelude.{Bool, true, if◌then◌else◌, ◌&&◌, List, [], ◌∷◌, ℕ, zero, suc, ◌+◌, ◌*◌, ◌<◌, get_or, Float, Option, Some, None}
 use Rattle.std.specs.Float.{nan, binary32}
 use Rattle.std.specs.Float.Ieee.{lt, le, of_bits}
 use Rattle.numbers.specs.Binary32.{◌+f◌, ◌-f◌, ◌*f◌}
@@ -42,7 +42,7 @@ nearer_than side v (Some before) = nearer side v before.level
 
 -- an entry is picked where it clears the limit and is nearer than the one picked before
 unfoldable pub picked : Side → Float → Option Entry → Entry → Option Entry
-picked side limit best entry = cond (clears side limit entry.level) (cond (nearer_than side entry.level best) (Some entry) best) best
+picked side limit best entry = if clears side limit entry.level then (if nearer_than side entry.level best then Some entry else best) else best
 
 -- entry n of a table of codes and levels
 abbrev pub entry_of : List ℕ → List Float → ℕ → Entry
@@ -69,7 +69,7 @@ unfoldable pub inside : Side → Float → Float → Float → Bool
 inside side c a v = nearer side v (away side c (reach *f a))
 
 -- the code has four bits: what `joined` asks of the two picks that it is handed
-abbrev pub FourBits : Option Entry → Type 0
+unfoldable pub FourBits : Option Entry → Type 0
 FourBits None = Unit
 FourBits (Some entry) = entry.code < 16
 
@@ -77,7 +77,7 @@ FourBits (Some entry) = entry.code < 16
 unfoldable pub joined : Float → Float → Option Entry → Option Entry → Option ℕ
 joined c a None down = None
 joined c a (Some high) None = None
-joined c a (Some high) (Some low) = cond (inside Upper c a high.level && inside Lower c a low.level) (Some (high.code * 16 + low.code)) None
+joined c a (Some high) (Some low) = if inside Upper c a high.level && inside Lower c a low.level then Some (high.code * 16 + low.code) else None
 
 unfoldable pub cmp_window : Float → Float → Option ℕ
 cmp_window c a = joined c a (nearest Upper c) (nearest Lower c)

@@ -160,9 +160,10 @@ pub const CAL_RANGE: u8 = 5;
 
 pub const CAL_PF_MAX: f32 = 0.32;
 
-// ---- every constant that is one number, in the order above
+// ---- every constant that is one number, in the order above; std has no `From` of a usize or an i32 for u64
 
 /// The floats, the two decided ones last.
+#[tactic(auto, using(crate::proofs::Nearest::named))]
 pub fn float_constants() -> [f32; 15]
     ensures { result ≡ float_constants }
 {
@@ -191,24 +192,24 @@ pub fn chip_constants() -> [u64; 18]
     ensures { result ≡ chip_constants }
 {
     [
-        R34_XY as u64,
-        R34_XX as u64,
-        R34_YY as u64,
-        R20_SENSE as u64,
-        R20_PB4 as u64,
-        R21_DEFAULT as u64,
+        u64::from(R34_XY),
+        u64::from(R34_XX),
+        u64::from(R34_YY),
+        u64::from(R20_SENSE),
+        u64::from(R20_PB4),
+        u64::from(R21_DEFAULT),
         SETTLE_MS,
         ALT_V_SETTLE_MS,
         VCAL_AC_SETTLE_MS,
         VCAL_DC_SETTLE_MS,
-        DISC_DEFAULT as u64,
-        ALT_N as u64,
-        ALT_V_SKIP as u64,
-        DC_SKIP as u64,
-        JOB_SKIP as u64,
-        JOB_N as u64,
+        u64::from(DISC_DEFAULT),
+        u64::from(ALT_N),
+        u64::from(ALT_V_SKIP),
+        u64::from(DC_SKIP),
+        u64::from(JOB_SKIP),
+        u64::from(JOB_N),
         RING_N as u64,
-        T_LIM_DEFAULT as u64,
+        u64::from(T_LIM_DEFAULT),
     ]
 }
 
@@ -218,33 +219,33 @@ pub fn state_constants() -> [u64; 28]
     ensures { result ≡ state_constants }
 {
     [
-        COUP_ACDC as u64,
-        COUP_DC as u64,
-        COUP_AC as u64,
-        MAIN_P as u64,
-        MAIN_WH as u64,
-        MAIN_VAH as u64,
-        HINT_NO_AC as u64,
-        HINT_AC as u64,
-        JOB_ZERO as u64,
-        JOB_VCAL as u64,
-        JR_NONE as u64,
-        JR_RUN as u64,
-        JR_OK as u64,
-        JR_SIGNAL as u64,
-        JR_SMALL as u64,
-        JR_BIG as u64,
-        JR_UNSTABLE as u64,
-        JR_RANGE as u64,
-        JR_ABORT as u64,
-        JR_METHOD as u64,
+        u64::from(COUP_ACDC),
+        u64::from(COUP_DC),
+        u64::from(COUP_AC),
+        u64::from(MAIN_P),
+        u64::from(MAIN_WH),
+        u64::from(MAIN_VAH),
+        u64::from(HINT_NO_AC),
+        u64::from(HINT_AC),
+        u64::from(JOB_ZERO),
+        u64::from(JOB_VCAL),
+        u64::from(JR_NONE),
+        u64::from(JR_RUN),
+        u64::from(JR_OK),
+        u64::from(JR_SIGNAL),
+        u64::from(JR_SMALL),
+        u64::from(JR_BIG),
+        u64::from(JR_UNSTABLE),
+        u64::from(JR_RANGE),
+        u64::from(JR_ABORT),
+        u64::from(JR_METHOD),
         ZERO_MAX_LPF as u64,
         ZERO_MAX_AD1 as u64,
-        CAL_NONE as u64,
-        CAL_RUN as u64,
-        CAL_OK as u64,
-        CAL_FLAT as u64,
-        CAL_NOT_REACTIVE as u64,
-        CAL_RANGE as u64,
+        u64::from(CAL_NONE),
+        u64::from(CAL_RUN),
+        u64::from(CAL_OK),
+        u64::from(CAL_FLAT),
+        u64::from(CAL_NOT_REACTIVE),
+        u64::from(CAL_RANGE),
     ]
 }

@@ -6,7 +6,7 @@ ghost use Rattle.tables.specs.Description.{in_bounds, check_description};
 use crate::bounds::within;
 use refusals::Refusal;
 
-/// Six numbers, and `a_auto`.
+/// Six numbers, and `a_auto`. The two arrays have different indices, and a C host keeps the struct as it lies.
 #[derive(Clone, Copy)]
 #[repr(C)]
 pub struct Description {

@@ -20,6 +20,7 @@ fn entry(table: &[f32], k: u8) -> f32
 // One line each over `entry`: the source's names, by which the definitions and C programs ask.
 
 /// The volts of a V range.
+#[tactic(auto, using(crate::proofs::Tables::v_lim_is))]
 pub fn v_lim(vr: u8) -> f32
     ensures { result ≡ entry_at nan v_lim vr }
 {
@@ -27,6 +28,7 @@ pub fn v_lim(vr: u8) -> f32
 }
 
 /// The amperes of an I range.
+#[tactic(auto, using(crate::proofs::Tables::i_lim_is))]
 pub fn i_lim(ik: u8) -> f32
     ensures { result ≡ entry_at nan i_lim ik }
 {
@@ -34,6 +36,7 @@ pub fn i_lim(ik: u8) -> f32
 }
 
 /// The ohms of the shunt of a current unit.
+#[tactic(auto, using(crate::proofs::Tables::shunt_ohm_is))]
 pub fn shunt_ohm(iu: u8) -> f32
     ensures { result ≡ entry_at nan shunt_ohm iu }
 {
@@ -41,6 +44,7 @@ pub fn shunt_ohm(iu: u8) -> f32
 }
 
 /// Volts at the jack for a volt at the V channel's converter.
+#[tactic(auto, using(crate::proofs::Tables::kv_is))]
 pub fn kv(vr: u8) -> f32
     ensures { result ≡ entry_at nan kv vr }
 {
@@ -48,6 +52,7 @@ pub fn kv(vr: u8) -> f32
 }
 
 /// The same in the AC V rows.
+#[tactic(auto, using(crate::proofs::Tables::k_acv_is))]
 pub fn k_acv(vr: u8) -> f32
     ensures { result ≡ entry_at nan k_acv vr }
 {
@@ -55,6 +60,7 @@ pub fn k_acv(vr: u8) -> f32
 }
 
 /// What a negative DC voltage is multiplied by.
+#[tactic(auto, using(crate::proofs::Tables::dcv_negk_is))]
 pub fn dcv_negk(vr: u8) -> f32
     ensures { result ≡ entry_at nan dcv_negk vr }
 {
@@ -62,6 +68,7 @@ pub fn dcv_negk(vr: u8) -> f32
 }
 
 /// The jump window of a V range's smoothing, in volts.
+#[tactic(auto, using(crate::proofs::Tables::acv_win_is))]
 pub fn acv_win(vr: u8) -> f32
     ensures { result ≡ entry_at nan acv_win vr }
 {
@@ -69,6 +76,7 @@ pub fn acv_win(vr: u8) -> f32
 }
 
 /// The jump window of a current's smoothing, in A, mA or uA: by calibration index, not by range.
+#[tactic(auto, using(crate::proofs::Tables::aca_win_is))]
 pub fn aca_win(ci: u8) -> f32
     ensures { result ≡ entry_at nan aca_win ci }
 {

@@ -2,23 +2,25 @@
 ghost use Rattle.std.specs.Prelude.{◌≡◌};
 ghost use Rattle.tables.specs.Ranges.{iu_ir, cal_index, coup_of, next_coupling, r36_of};
 
-use crate::bounds::at_most;
 use crate::constants::{COUP_AC, COUP_ACDC, COUP_DC};
 
 /// The unit of a current range (0 A, 1 mA, 2 uA) and its amplifier's gain index (0 times ten, 1 times
 /// one).
+// Both are numbers and no enums: they are indices of the description's tables `shunt` and `mv_div`, and
+// `cal_index` counts with them.
 #[derive(Clone, Copy, Debug, PartialEq, Eq)]
+#[repr(C)]
 pub struct IuIr {
     pub iu: u8,
     pub ir: u8,
 }
 
 /// Of current range k, where a range above 5 counts as 5.
-#[tactic(auto, using(crate::proofs::Held::at_most_law), unfolding(crate::specs::Ranges::iu_ir))]
+#[tactic(auto, unfolding(crate::specs::Ranges::iu_ir, crate::specs::Bounds::at_most))]
 pub fn iu_ir(k: u8) -> IuIr
     ensures { result ≡ iu_ir k }
 {
-    let held = at_most(5, k);
+    let held = k.min(5);
     IuIr {
         iu: 2 - held / 2,
         ir: held % 2,
@@ -34,8 +36,10 @@ pub fn cal_index(k: u8) -> u8
     u.iu * 2 + u.ir
 }
 
+// Couplings are numbers and no enum: the source numbers them (`COUP_ACDC` 0, `COUP_DC` 1, `COUP_AC` 3), and a C host
+// keeps one in the meter's state.
+
 /// The coupling that a stored or asked number means: its low two bits, with 2 for AC+DC.
-// A number and no enum: a C host keeps it in the meter's state.
 #[tactic(auto, unfolding(crate::specs::Ranges::coup_of))]
 pub fn coup_of(c: u32) -> u8
     ensures { result ≡ coup_of c }

@@ -29,9 +29,8 @@ impl From<RowKind> for u8 {
     }
 }
 
-// The job is a number and no enum: a C host keeps it in the meter's state.
-
 // Whether the row is the DC one: in DC coupling outside a job, and in steps 6 to 11 of a zero job.
+// The job is a number and no enum: a C host keeps it in the meter's state.
 #[tactic(auto, unfolding(crate::specs::Row::is_dc))]
 fn is_dc(dc: bool, job: u8, step: u8) -> bool
     ensures { result ≡ is_dc dc job step }
@@ -53,6 +52,7 @@ fn is_reference(job: u8, step: u8) -> bool
 
 /// Of the method (`alt`), the coupling in force (`dc`), the job and its step, the reference's kind
 /// (`job_dc`) and the phase.
+// Six parameters and no struct of them: the exported `pw_row_kind` hands them on one by one, as C calls it.
 #[tactic(auto, unfolding(crate::specs::Row::row_kind))]
 pub fn row_kind(alt: bool, dc: bool, job: u8, step: u8, job_dc: bool, phase: u8) -> RowKind
     ensures { result ≡ row_kind alt dc job step job_dc phase }

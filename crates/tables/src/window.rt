@@ -1,6 +1,9 @@
 //! The comparator's window: the two tables of thresholds, and one rule over both.
 ghost use Rattle.std.specs.Prelude.{◌≡◌, length};
-ghost use Rattle.tables.specs.Window.{away, clears, nearer, picked, walk, inside, FourBits, joined, cmp_window};
+ghost use Rattle.tables.specs.Window.{away, clears, nearer, picked, walk, nearest, inside, FourBits, joined, cmp_window};
+
+// Codes and levels in two tables a side, where the source has one of pairs: document 01 makes "arrays of pairs two arrays".
+// `walk` goes over both at once.
 
 // The upper thresholds: code, and volts above the comparator's zero.
 const CMP_RH_CODE: [u8; 12] = [0xF, 0xE, 0xD, 0xC, 0xB, 0xA, 0x9, 0x8, 0x1, 0x0, 0x5, 0x6];
@@ -19,6 +22,7 @@ const CMP_RL_LEVEL: [f32; 12] = [
 // How far a threshold clears the middle.
 const M: f32 = 0.006;
 
+/// The two sides of the middle.
 #[derive(Clone, Copy, Debug, PartialEq, Eq)]
 pub enum Side {
     Upper,
@@ -81,7 +85,7 @@ fn picked(side: Side, limit: f32, best: Option<Entry>, entry: Entry) -> Option<E
 
 // The nearest entry of a table that clears the limit.
 #[tactic(auto, unfolding(crate::specs::Window::walk))]
-fn nearest(side: Side, limit: f32, codes: &[u8], levels: &[f32]) -> Option<Entry>
+fn walk(side: Side, limit: f32, codes: &[u8], levels: &[f32]) -> Option<Entry>
     requires { length codes.now ≡ length levels.now }
     ensures { result ≡ walk side limit codes.now levels.now (length levels.now) }
 {
@@ -101,37 +105,36 @@ fn inside(side: Side, c: f32, a: f32, v: f32) -> bool
 }
 
 // R21 of two picks: none where a side has no entry, or one that is not inside the swing.
-#[tactic(auto, unfolding(crate::specs::Window::joined))]
+#[tactic(auto, unfolding(crate::specs::Window::joined, crate::specs::Window::FourBits))]
 fn joined(c: f32, a: f32, up: Option<Entry>, down: Option<Entry>) -> Option<u8>
     requires { FourBits up × FourBits down }
     ensures { result ≡ joined c a up down }
 {
     let high = up?;
     let low = down?;
-    if inside(Side::Upper, c, a, high.level) && inside(Side::Lower, c, a, low.level) {
-        Some(high.code * 16 + low.code)
-    } else {
-        None
+    let both = inside(Side::Upper, c, a, high.level) && inside(Side::Lower, c, a, low.level);
+    both.then_some(high.code * 16 + low.code)
+}
+
+// The nearest entry of a side's table that clears the middle c.
+#[tactic(auto, using(crate::proofs::Tables::upper_codes, crate::proofs::Tables::lower_codes, crate::proofs::Tables::upper_levels, crate::proofs::Tables::lower_levels, crate::proofs::Walk::four_bits))]
+fn nearest(side: Side, c: f32) -> Option<Entry>
+    ensures picked { result ≡ nearest side c }
+    ensures four_bits { FourBits result }
+{
+    let limit = away(side, c, M);
+    match side {
+        Side::Upper => walk(side, limit, &CMP_RH_CODE, &CMP_RH_LEVEL),
+        Side::Lower => walk(side, limit, &CMP_RL_CODE, &CMP_RL_LEVEL),
     }
 }
 
 /// R21 for a comparator whose input has its middle (its DC part) at c volts and swings by a volts (the
 /// AC part's RMS): the nearest threshold on each side that clears the middle, where both lie within
 /// 0.9 of the swing.
+#[tactic(auto, unfolding(crate::specs::Window::cmp_window))]
 pub fn cmp_window(c: f32, a: f32) -> Option<u8>
     ensures { result ≡ cmp_window c a }
 {
-    let up = nearest(
-        Side::Upper,
-        away(Side::Upper, c, M),
-        &CMP_RH_CODE,
-        &CMP_RH_LEVEL,
-    );
-    let down = nearest(
-        Side::Lower,
-        away(Side::Lower, c, M),
-        &CMP_RL_CODE,
-        &CMP_RL_LEVEL,
-    );
-    joined(c, a, up, down)
+    joined(c, a, nearest(Side::Upper, c), nearest(Side::Lower, c))
 }

@@ -1,5 +1,5 @@
 -- What follows from the definitions: when a result is turned down, and what each take leaves as it was.
-use mathlib.Core.Path.{◌≡◌, refl, ap}
+use mathlib.Core.Path.{◌≡◌, refl}
 use mathlib.Core.Bool.{Bool, true, false, not, cond, ◌&&◌}
 use Prim.Native.Nat.{ℕ, ◌%◌}
 use lib.Dec.{eqb}
@@ -43,18 +43,6 @@ module _ (w : Instrument) (codes : Codes) (m : Measured) where
   pub alt_exactly : (r : Ranges) (phase : ℕ) → is_some (take_alt w r phase codes m) ≡ not (root_too_large (rms_root codes.rms))
   unfolding take_alt
   alt_exactly r phase = down_exactly (root_too_large (rms_root codes.rms)) _
-
--- ---- a result turned down changes nothing
-abbrev pub after : Measured → Option Measured → Measured
-after m None = m
-after m (Some t) = t
-
-module _ (w : Instrument) (r : Ranges) (codes : Codes) (m : Measured) where
-  pub down_leaves : (stat : ℕ) → take w r stat codes m ≡ None → after m (take w r stat codes m) ≡ m
-  down_leaves stat down = ap (after m) down
-
-  pub alt_down_leaves : (phase : ℕ) → take_alt w r phase codes m ≡ None → after m (take_alt w r phase codes m) ≡ m
-  alt_down_leaves phase down = ap (after m) down
 
 -- ---- what each take leaves of the smoothed values
 

@@ -1,5 +1,5 @@
 -- What a conversion's codes say before any smoothing, in the source's order of operations, each rounded to binary32.
-use Rattle.std.specs.Prelude.{Bool, cond, ℕ, ◌+◌, ◌*◌, min, ℤ, pos, Float}
+use Rattle.std.specs.Prelude.{Bool, if◌then◌else◌, ℕ, ◌+◌, ◌*◌, min, ℤ, pos, Float}
 use Rattle.std.specs.Float.{nan, binary32}
 use Rattle.std.specs.Float.Ieee.{of_bits, of_int}
 use Rattle.numbers.specs.Binary32.{◌-f◌, ◌*f◌, ◌/f◌, zero_f, max_of}
@@ -63,7 +63,7 @@ ad1_gain = of_bits binary32 0x3f66_6666
 
 -- `off`: the word at byte ACh + 4 ci, 0.0 once a zero is stored
 unfoldable pub ad1_offset : Calibration → Bool → ℕ → Float
-ad1_offset c zeroOk ik = cond zeroOk zero_f (offset c (0xac + 4 * cal_index ik))
+ad1_offset c zeroOk ik = if zeroOk then zero_f else offset c (0xac + 4 * cal_index ik)
 
 -- `(code * 1.25 / (SHUNT[iu] * MV_DIV[ir] * 0.9) / AD1_DIV * cal(0x94 + 4 ci) - off) * us` with `code = (ad1 - zd) as f32`
 unfoldable pub ad1_amps : Instrument → ℕ → ℤ → Float

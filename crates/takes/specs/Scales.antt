@@ -1,6 +1,6 @@
 -- What codes are multiplied by, and the zeros that are taken off them: the first lines of `pw_take`, `pw_take_alt` and `pw_poll_dc` of the source.
 -- Zeros go by current range (ik), words and windows by calibration index (iu * 2 + ir), shunts by unit (iu), dividers by gain index (ir).
-use Rattle.std.specs.Prelude.{Bool, cond, List, ℕ, min, ◌+◌, ◌*◌, eqb, ℤ, pos, negsuc, ◌-ℤ◌, get_or, Float}
+use Rattle.std.specs.Prelude.{Bool, if◌then◌else◌, List, ℕ, min, ◌+◌, ◌*◌, eqb, ℤ, pos, negsuc, ◌-ℤ◌, get_or, Float}
 use Rattle.std.specs.Float.{nan, binary32}
 use Rattle.std.specs.Float.Ieee.{eq, of_bits, of_int}
 use Rattle.numbers.specs.Binary32.{◌*f◌, ◌/f◌, one_f}
@@ -23,7 +23,7 @@ micro = of_bits binary32 0x3586_37bd
 
 -- `us`, by unit: `[1.0, 1e-3, 1e-6]`
 unfoldable pub us : ℕ → Float
-us iu = cond (eqb iu 0) one_f (cond (eqb iu 1) milli micro)
+us iu = if eqb iu 0 then one_f else if eqb iu 1 then milli else micro
 
 -- `MV_DIV[ir]` and `SHUNT[iu]`, which the description brings
 unfoldable pub mv_div : Description → ℕ → Float
@@ -50,7 +50,7 @@ g_i c ik = factor c (0xc4 + 4 * cal_index ik)
 
 -- `g_il`: the word at byte F4h + 4 ci, but `g_i` where that is 1.0
 unfoldable pub g_il : Calibration → ℕ → Float
-g_il c ik = cond (eq (factor c (0xf4 + 4 * cal_index ik)) one_f) (g_i c ik) (factor c (0xf4 + 4 * cal_index ik))
+g_il c ik = if eq (factor c (0xf4 + 4 * cal_index ik)) one_f then g_i c ik else factor c (0xf4 + 4 * cal_index ik)
 
 -- `ACA_WIN[ci] * us`
 unfoldable pub i_win : ℕ → Float
@@ -58,7 +58,7 @@ i_win ik = entry_at nan aca_win (cal_index ik) *f us (iu_ir ik).iu
 
 -- a zero of a current range, 0 while none is stored
 unfoldable pub zero_at : Bool → List ℤ → ℕ → ℤ
-zero_at stored zeros ik = cond stored (get_or zeros (min ik 5) (pos 0)) (pos 0)
+zero_at stored zeros ik = if stored then get_or zeros (min ik 5) (pos 0) else pos 0
 
 -- `zx`, `zd` by current range and `zy`
 abbrev pub zero_x : Corrections → ℕ → ℤ
@@ -68,7 +68,7 @@ abbrev pub zero_d : Corrections → ℕ → ℤ
 zero_d c ik = zero_at c.zero_ok c.zd ik
 
 unfoldable pub zero_y : Corrections → ℤ
-zero_y c = cond c.zero_ok c.zy (pos 0)
+zero_y c = if c.zero_ok then c.zy else pos 0
 
 -- `(lpf - zx) as f32` and the like
 unfoldable pub code_less : ℤ → ℤ → Float

@@ -1,6 +1,6 @@
 -- One result: None where it is turned down and nothing changes, else what stands once it is taken. Document 01: "XY is turned down when |RMS| > 2^36; XX and YY when the computed root exceeds 262,144". The source: `pw_take`, `pw_take_alt`, and the two halves of `pw_poll_dc`,
 -- which turns nothing down.
-use Rattle.std.specs.Prelude.{◌≡◌, Bool, not, cond, ◌&&◌, ℕ, ◌%◌, ◌^◌, ltb, eqb, Option, Some, None, ℤ, nat_abs, Float}
+use Rattle.std.specs.Prelude.{◌≡◌, Bool, not, if◌then◌else◌, ◌&&◌, ℕ, ◌%◌, ◌^◌, ltb, eqb, Option, Some, None, ℤ, nat_abs, Float}
 use Rattle.std.specs.Float.{binary32}
 use Rattle.std.specs.Float.Ieee.{lt, of_bits}
 use Rattle.numbers.specs.Binary32.{◌+f◌, ◌*f◌, ◌/f◌, zero_f}
@@ -32,7 +32,7 @@ root_too_large root = lt root_most root
 
 -- the root of an RMS code, None where it is too large
 abbrev pub if_within : Float → Option Float
-if_within root = cond (root_too_large root) None (Some root)
+if_within root = if root_too_large root then None else Some root
 
 unfoldable pub root_within : ℤ → Option Float
 root_within rms = if_within (rms_root rms)
@@ -42,23 +42,14 @@ root_within rms = if_within (rms_root rms)
 -- the phase calibration's sum and count with one power more, at the apparent power s
 abbrev pub one_more : PhaseCal → Float → Float → PhaseCal
 one_more c p s =
-    record {
-      sph = c.sph;
-      cal = c.cal;
-      cal_n = count_up c.cal_n;
-      cal_acc = c.cal_acc +f p /f s;
-      cal_s0 = c.cal_s0;
-      cal_pa = c.cal_pa;
-      cal_res = c.cal_res;
-    }
+    record c { cal_n = count_up c.cal_n; cal_acc = c.cal_acc +f p /f s }
 
 -- `if cal != 0 && seen & 6 == 6 { s = v_ac * i_ac; if s > 0.0 { cal_acc += p / s; cal_n += 1 } }`
 unfoldable pub phase_counted : PhaseCal → Float → ℕ → Parts → PhaseCal
 phase_counted c p seen parts =
     let s = parts.v_ac *f parts.i_ac in
-    cond (not (eqb c.cal 0) && both_seen seen && lt zero_f s)
-    (one_more c p s)
-    c
+    if not (eqb c.cal 0) && both_seen seen && lt zero_f s then one_more c p s
+    else c
 
 -- what XY leaves once the power p and the DC current are known; the calibration counts the power unsmoothed
 abbrev pub xy_measured : Ranges → Float → Float → Measured → Measured
@@ -71,8 +62,8 @@ xy_measured r p iDc m =
 
 unfoldable pub take_xy : Instrument → Ranges → Codes → Measured → Option Measured
 take_xy w r codes m =
-    cond (xy_too_large codes.rms) None
-    (Some (xy_measured r (power w r codes.rms) (dc_amps w r.ik codes.lpf) m))
+    if xy_too_large codes.rms then None
+    else Some (xy_measured r (power w r codes.rms) (dc_amps w r.ik codes.lpf) m)
 
 -- parts and marks after a result; the phase calibration stays
 abbrev pub measured_to : Parts → ℕ → Measured → Measured
@@ -81,25 +72,26 @@ measured_to parts seen m = record { parts = parts; seen = seen; phase_cal = m.ph
 unfoldable pub take_xx : Instrument → ℕ → Codes → Measured → Option Measured
 take_xx w ik codes m =
     let root = rms_root codes.rms in
-    cond (root_too_large root) None
-    (Some (measured_to
+    if root_too_large root then None
+    else Some (measured_to
     (i_parts ik m.seen (ac_amps w.description w.calibration ik root) (dc_amps w ik codes.lpf) m.parts)
-    (also_seen m.seen Current) m))
+    (also_seen m.seen Current) m)
 
 unfoldable pub take_yy : Instrument → ℕ → Codes → Measured → Option Measured
 take_yy w vr codes m =
     let root = rms_root codes.rms in
-    cond (root_too_large root) None
-    (Some (measured_to
+    if root_too_large root then None
+    else Some (measured_to
     (v_parts vr m.seen (ac_volts root vr (gain w vr)) (dc_volts codes.lpf (zero_y w.corrections) vr (gain w vr)) m.parts)
-    (also_seen m.seen Voltage) m))
+    (also_seen m.seen Voltage) m)
 
 -- by R34; any other is turned down
 unfoldable pub take : Instrument → Ranges → ℕ → Codes → Measured → Option Measured
 take w r stat codes m =
-    cond (eqb stat r34_xy) (take_xy w r codes m)
-    (cond (eqb stat r34_xx) (take_xx w r.ik codes m)
-    (cond (eqb stat r34_yy) (take_yy w r.vr codes m) None))
+    if eqb stat r34_xy then take_xy w r codes m
+    else if eqb stat r34_xx then take_xx w r.ik codes m
+    else if eqb stat r34_yy then take_yy w r.vr codes m
+    else None
 
 -- ---- the alternating method
 
@@ -116,8 +108,8 @@ take_alt_i w ik root lpf m =
 unfoldable pub take_alt : Instrument → Ranges → ℕ → Codes → Measured → Option Measured
 take_alt w r phase codes m =
     let root = rms_root codes.rms in
-    cond (root_too_large root) None
-    (Some (cond (eqb (phase % 2) 0) (take_alt_v w r.vr root m) (take_alt_i w r.ik root codes.lpf m)))
+    if root_too_large root then None
+    else Some (if eqb (phase % 2) 0 then take_alt_v w r.vr root m else take_alt_i w r.ik root codes.lpf m)
 
 -- ---- the DC row
 
@@ -129,7 +121,7 @@ dc_v_taken w vr codes m =
 
 -- `if seen & 6 == 6 { seen |= 1 }`
 unfoldable pub seen_with_power : ℕ → ℕ
-seen_with_power seen = cond (both_seen seen) (also_seen seen Power) seen
+seen_with_power seen = if both_seen seen then also_seen seen Power else seen
 
 unfoldable pub dc_i_taken : Instrument → ℕ → Codes → Measured → Measured
 dc_i_taken w ik codes m =

@@ -2,16 +2,13 @@
 ghost use Rattle.std.specs.Prelude.{◌≡◌};
 ghost use Rattle.takes.specs.Take.{xy_too_large, root_too_large, root_within, phase_counted, take_xy, take_xx, take_yy, take, take_alt_v, take_alt_i, take_alt, dc_v_taken, seen_with_power, dc_i_taken};
 
-use crate::parts::{alt_v_parts, dc_i_parts, dc_v_parts, i_parts, v_parts, xy_parts};
-use crate::readings::{ac_volts, dc_volts};
-use crate::scales::{Instrument, rms_root, zero_y};
+use crate::scales::{Instrument, rms_root};
 use codes::Codes;
 use state::{Parts, PhaseCal, Quantity, Ranges, also_seen, both_seen, count_up};
 use tables::constants::{R34_XX, R34_XY, R34_YY};
 
 /// What a result may change.
 #[derive(Clone, Copy)]
-#[repr(C)]
 pub struct Measured {
     pub parts: Parts,
     pub seen: u8,
@@ -65,137 +62,6 @@ fn phase_counted(before: PhaseCal, p: f32, seen: u8, parts: Parts) -> PhaseCal
     }
 }
 
-// XY: the power.
-#[tactic(auto, unfolding(crate::specs::Take::take_xy))]
-fn take_xy(with: Instrument, ranges: Ranges, codes: Codes, before: Measured) -> Option<Measured>
-    ensures { result ≡ take_xy with ranges codes before }
-{
-    if xy_too_large(codes.rms) {
-        return None;
-    }
-    let p = with.power(ranges, codes.rms);
-    let i_dc = with.dc_amps(ranges.ik, codes.lpf);
-    let parts = xy_parts(ranges, before.seen, p, i_dc, before.parts);
-    let seen = also_seen(before.seen, Quantity::Power);
-    Some(Measured {
-        parts,
-        seen,
-        phase_cal: phase_counted(before.phase_cal, p, seen, parts),
-    })
-}
-
-// XX: the current.
-#[tactic(auto, unfolding(crate::specs::Take::take_xx, crate::specs::Take::root_within))]
-fn take_xx(with: Instrument, ik: u8, codes: Codes, before: Measured) -> Option<Measured>
-    ensures { result ≡ take_xx with ik codes before }
-{
-    let root = root_within(codes.rms)?;
-    let i_ac = with.ac_amps(ik, root);
-    let i_dc = with.dc_amps(ik, codes.lpf);
-    Some(Measured {
-        parts: i_parts(ik, before.seen, i_ac, i_dc, before.parts),
-        seen: also_seen(before.seen, Quantity::Current),
-        ..before
-    })
-}
-
-// YY: the voltage.
-#[tactic(auto, unfolding(crate::specs::Take::take_yy, crate::specs::Take::root_within))]
-fn take_yy(with: Instrument, vr: u8, codes: Codes, before: Measured) -> Option<Measured>
-    ensures { result ≡ take_yy with vr codes before }
-{
-    let root = root_within(codes.rms)?;
-    let g = with.gain(vr);
-    let v_ac = ac_volts(root, vr, g);
-    let v_dc = dc_volts(codes.lpf, zero_y(with.corrections), vr, g);
-    Some(Measured {
-        parts: v_parts(vr, before.seen, v_ac, v_dc, before.parts),
-        seen: also_seen(before.seen, Quantity::Voltage),
-        ..before
-    })
-}
-
-/// Method B: one result, by R34. None: it is turned down, as any other R34 is, and nothing changes.
-#[tactic(auto, unfolding(crate::specs::Take::take))]
-pub fn take(
-    with: Instrument,
-    ranges: Ranges,
-    stat: u8,
-    codes: Codes,
-    before: Measured,
-) -> Option<Measured>
-    ensures { result ≡ take with ranges stat codes before }
-{
-    match stat {
-        R34_XY => take_xy(with, ranges, codes, before),
-        R34_XX => take_xx(with, ranges.ik, codes, before),
-        R34_YY => take_yy(with, ranges.vr, codes, before),
-        _ => None,
-    }
-}
-
-// The alternating method's voltage.
-#[tactic(auto, unfolding(crate::specs::Take::take_alt_v))]
-fn take_alt_v(with: Instrument, vr: u8, root: f32, before: Measured) -> Measured
-    ensures { result ≡ take_alt_v with vr root before }
-{
-    let v_ac = with.alt_volts(vr, root);
-    Measured {
-        parts: alt_v_parts(vr, before.seen, v_ac, before.parts),
-        seen: also_seen(before.seen, Quantity::Voltage),
-        ..before
-    }
-}
-
-// The alternating method's current.
-#[tactic(auto, unfolding(crate::specs::Take::take_alt_i))]
-fn take_alt_i(with: Instrument, ik: u8, root: f32, lpf: i32, before: Measured) -> Measured
-    ensures { result ≡ take_alt_i with ik root lpf before }
-{
-    let i_ac = with.alt_amps(ik, root);
-    let i_dc = with.alt_dc_amps(ik, lpf);
-    Measured {
-        parts: i_parts(ik, before.seen, i_ac, i_dc, before.parts),
-        seen: also_seen(before.seen, Quantity::Current),
-        ..before
-    }
-}
-
-/// The alternating method: voltage in even phases, current in odd ones. None: the result is turned
-/// down, and nothing changes.
-#[tactic(auto, unfolding(crate::specs::Take::take_alt, crate::specs::Take::root_within))]
-pub fn take_alt(
-    with: Instrument,
-    ranges: Ranges,
-    phase: u8,
-    codes: Codes,
-    before: Measured,
-) -> Option<Measured>
-    ensures { result ≡ take_alt with ranges phase codes before }
-{
-    let root = root_within(codes.rms)?;
-    Some(if phase % 2 == 0 {
-        take_alt_v(with, ranges.vr, root, before)
-    } else {
-        take_alt_i(with, ranges.ik, root, codes.lpf, before)
-    })
-}
-
-/// The DC row's voltage. Nothing is turned down.
-#[tactic(auto, unfolding(crate::specs::Take::dc_v_taken))]
-pub fn dc_v_taken(with: Instrument, vr: u8, codes: Codes, before: Measured) -> Measured
-    ensures { result ≡ dc_v_taken with vr codes before }
-{
-    let g = with.gain(vr);
-    let v_dc = dc_volts(codes.lpf, zero_y(with.corrections), vr, g);
-    let vac_dc = ac_volts(rms_root(codes.rms), vr, g);
-    Measured {
-        parts: dc_v_parts(vr, before.seen, v_dc, vac_dc, before.parts),
-        seen: also_seen(before.seen, Quantity::Voltage),
-        ..before
-    }
-}
-
 // With voltage and current marked the power is marked too.
 #[tactic(auto, unfolding(crate::specs::Take::seen_with_power))]
 fn seen_with_power(seen: u8) -> u8
@@ -208,15 +74,145 @@ fn seen_with_power(seen: u8) -> u8
     }
 }
 
-/// The DC row's current, of AD1.
-#[tactic(auto, unfolding(crate::specs::Take::dc_i_taken))]
-pub fn dc_i_taken(with: Instrument, ik: u8, codes: Codes, before: Measured) -> Measured
-    ensures { result ≡ dc_i_taken with ik codes before }
-{
-    let i_dc = with.ad1_amps(ik, codes.ad1);
-    Measured {
-        parts: dc_i_parts(ik, before.seen, i_dc, before.parts),
-        seen: seen_with_power(also_seen(before.seen, Quantity::Current)),
-        ..before
+// The takes of a voltage and of a current stay apart, here as in each path: they read by other scales, words and
+// zeros and into other parts, and one for both would take all of that as parameters. Nor do the ranges, the codes and
+// what was before make one struct: the codes come with the frame, the other two are of the meter, and only XY and the
+// two that choose a take need both ranges.
+impl Instrument {
+    // XY: the power.
+    #[tactic(auto, unfolding(crate::specs::Take::take_xy))]
+    fn take_xy(&self, ranges: Ranges, codes: Codes, before: Measured) -> Option<Measured>
+        ensures { result ≡ take_xy self.now ranges codes before }
+    {
+        if xy_too_large(codes.rms) {
+            return None;
+        }
+        let p = self.power(ranges, codes.rms);
+        let i_dc = self.dc_amps(ranges.ik, codes.lpf);
+        let parts = before.xy_parts(ranges, p, i_dc);
+        let seen = also_seen(before.seen, Quantity::Power);
+        Some(Measured {
+            parts,
+            seen,
+            phase_cal: phase_counted(before.phase_cal, p, seen, parts),
+        })
+    }
+
+    // XX: the current.
+    #[tactic(auto, unfolding(crate::specs::Take::take_xx, crate::specs::Take::root_within))]
+    fn take_xx(&self, ik: u8, codes: Codes, before: Measured) -> Option<Measured>
+        ensures { result ≡ take_xx self.now ik codes before }
+    {
+        let root = root_within(codes.rms)?;
+        let i_ac = self.ac_amps(ik, root);
+        let i_dc = self.dc_amps(ik, codes.lpf);
+        Some(Measured {
+            parts: before.i_parts(ik, i_ac, i_dc),
+            seen: also_seen(before.seen, Quantity::Current),
+            ..before
+        })
+    }
+
+    // YY: the voltage.
+    #[tactic(auto, unfolding(crate::specs::Take::take_yy, crate::specs::Take::root_within))]
+    fn take_yy(&self, vr: u8, codes: Codes, before: Measured) -> Option<Measured>
+        ensures { result ≡ take_yy self.now vr codes before }
+    {
+        let root = root_within(codes.rms)?;
+        let v_ac = self.ac_volts(vr, root);
+        let v_dc = self.dc_volts(vr, codes.lpf);
+        Some(Measured {
+            parts: before.v_parts(vr, v_ac, v_dc),
+            seen: also_seen(before.seen, Quantity::Voltage),
+            ..before
+        })
+    }
+
+    /// Method B: one result, by R34. None: it is turned down, as any other R34 is, and nothing changes.
+    // R34 is a number and no enum: it is the chip's register, which a C host keeps in the state.
+    #[tactic(auto, unfolding(crate::specs::Take::take))]
+    pub fn take(&self, ranges: Ranges, stat: u8, codes: Codes, before: Measured) -> Option<Measured>
+        ensures { result ≡ take self.now ranges stat codes before }
+    {
+        match stat {
+            R34_XY => self.take_xy(ranges, codes, before),
+            R34_XX => self.take_xx(ranges.ik, codes, before),
+            R34_YY => self.take_yy(ranges.vr, codes, before),
+            _ => None,
+        }
+    }
+
+    // The alternating method's voltage.
+    #[tactic(auto, unfolding(crate::specs::Take::take_alt_v))]
+    fn take_alt_v(&self, vr: u8, root: f32, before: Measured) -> Measured
+        ensures { result ≡ take_alt_v self.now vr root before }
+    {
+        let v_ac = self.alt_volts(vr, root);
+        Measured {
+            parts: before.alt_v_parts(vr, v_ac),
+            seen: also_seen(before.seen, Quantity::Voltage),
+            ..before
+        }
+    }
+
+    // The alternating method's current.
+    #[tactic(auto, unfolding(crate::specs::Take::take_alt_i))]
+    fn take_alt_i(&self, ik: u8, root: f32, lpf: i32, before: Measured) -> Measured
+        ensures { result ≡ take_alt_i self.now ik root lpf before }
+    {
+        let i_ac = self.alt_amps(ik, root);
+        let i_dc = self.alt_dc_amps(ik, lpf);
+        Measured {
+            parts: before.i_parts(ik, i_ac, i_dc),
+            seen: also_seen(before.seen, Quantity::Current),
+            ..before
+        }
+    }
+
+    /// The alternating method: voltage in even phases, current in odd ones. None: the result is turned
+    /// down, and nothing changes.
+    #[tactic(auto, unfolding(crate::specs::Take::take_alt, crate::specs::Take::root_within))]
+    pub fn take_alt(
+        &self,
+        ranges: Ranges,
+        phase: u8,
+        codes: Codes,
+        before: Measured,
+    ) -> Option<Measured>
+        ensures { result ≡ take_alt self.now ranges phase codes before }
+    {
+        let root = root_within(codes.rms)?;
+        Some(if phase % 2 == 0 {
+            self.take_alt_v(ranges.vr, root, before)
+        } else {
+            self.take_alt_i(ranges.ik, root, codes.lpf, before)
+        })
+    }
+
+    /// The DC row's voltage. Nothing is turned down.
+    #[tactic(auto, unfolding(crate::specs::Take::dc_v_taken))]
+    pub fn dc_v_taken(&self, vr: u8, codes: Codes, before: Measured) -> Measured
+        ensures { result ≡ dc_v_taken self.now vr codes before }
+    {
+        let v_dc = self.dc_volts(vr, codes.lpf);
+        let vac_dc = self.ac_volts(vr, rms_root(codes.rms));
+        Measured {
+            parts: before.dc_v_parts(vr, v_dc, vac_dc),
+            seen: also_seen(before.seen, Quantity::Voltage),
+            ..before
+        }
+    }
+
+    /// The DC row's current, of AD1.
+    #[tactic(auto, unfolding(crate::specs::Take::dc_i_taken))]
+    pub fn dc_i_taken(&self, ik: u8, codes: Codes, before: Measured) -> Measured
+        ensures { result ≡ dc_i_taken self.now ik codes before }
+    {
+        let i_dc = self.ad1_amps(ik, codes.ad1);
+        Measured {
+            parts: before.dc_i_parts(ik, i_dc),
+            seen: seen_with_power(also_seen(before.seen, Quantity::Current)),
+            ..before
+        }
     }
 }

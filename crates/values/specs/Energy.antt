@@ -1,5 +1,5 @@
 -- `e_wh`, `vah`, `secs` and `p_avg` of the source's values.
-use Rattle.std.specs.Prelude.{Bool, cond, ◌&&◌, ℕ, ◌/◌, ◌%◌, ◌^◌, ltb, pos, Float}
+use Rattle.std.specs.Prelude.{Bool, if◌then◌else◌, ◌&&◌, ℕ, ◌/◌, ◌%◌, ◌^◌, ltb, pos, Float}
 use Rattle.std.specs.Float.{nan, binary32}
 use Rattle.std.specs.Float.Ieee.{of_bits, of_int}
 use Rattle.numbers.specs.Binary32.{◌*f◌, ◌/f◌}
@@ -12,7 +12,7 @@ hour_ms = of_bits binary32 0x4a5b_ba00  -- 3.6e6, the ms of an hour
 
 -- `p_avg`: "Mean P over the integration time (Wh / h; NaN before any)": `e.wh() * 3.6e6 / t_int` where `t_int > 0 && (!alt || dc)`; `active` is `!alt || dc`
 unfoldable pub mean_power : Bool → Float → ℕ → Float
-mean_power active wh tInt = cond (ltb 0 tInt && active) (wh *f hour_ms /f of_int binary32 (pos tInt)) nan
+mean_power active wh tInt = if ltb 0 tInt && active then wh *f hour_ms /f of_int binary32 (pos tInt) else nan
 
 -- `secs` is `(t_int / 1000) as u32`
 unfoldable pub energies : Bool → Tally → Energies

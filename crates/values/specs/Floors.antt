@@ -1,5 +1,5 @@
 -- "The AC floors", `fv` and `fi` of `pw_vals` of the source, and the parts that it works with.
-use Rattle.std.specs.Prelude.{Bool, cond, ◌&&◌, ℕ, Float}
+use Rattle.std.specs.Prelude.{Bool, if◌then◌else◌, ◌&&◌, ℕ, Float}
 use Rattle.std.specs.Float.{nan}
 use Rattle.std.specs.Float.Ieee.{le}
 use Rattle.numbers.specs.Binary32.{◌*f◌, zero_f}
@@ -27,28 +27,25 @@ unfoldable pub both_reached : Reached → Bool
 both_reached a = a.v_ok && a.i_ok
 
 abbrev pub kept_if : Bool → Float → Float
-kept_if ok x = cond ok x zero_f
+kept_if ok x = if ok then x else zero_f
 
 -- `va`, `ia` and `pa`: 0.0 below the floor, `pa` where either is
 unfoldable pub floored : Reached → Parts → Parts
 floored a p =
-    record {
+    record p {
       p_ac = kept_if (both_reached a) p.p_ac;
       v_ac = kept_if a.v_ok p.v_ac;
-      v_dc = p.v_dc;
       i_ac = kept_if a.i_ok p.i_ac;
-      i_dc = p.i_dc;
-      vac_dc = p.vac_dc;
     }
 
 -- `vd` and `id`: "AC: the DC parts are not used"
 abbrev pub without_dc : Parts → Parts
 without_dc p =
-    record { p_ac = p.p_ac; v_ac = p.v_ac; v_dc = zero_f; i_ac = p.i_ac; i_dc = zero_f; vac_dc = p.vac_dc }
+    record p { v_dc = zero_f; i_dc = zero_f }
 
 unfoldable pub by_coupling : Bool → Parts → Parts
-by_coupling ac p = cond ac (without_dc p) p
+by_coupling ac p = if ac then without_dc p else p
 
 -- the parts that the figures are worked out from: the floors are method B's alone
 unfoldable pub used_parts : Mode → Reached → Parts → Parts
-used_parts m a p = by_coupling (ac_only m) (cond (simultaneous m) (floored a p) p)
+used_parts m a p = by_coupling (ac_only m) (if simultaneous m then floored a p else p)

@@ -1,5 +1,5 @@
 -- `(p, s, q, pf, v, i)` of `pw_vals` of the source, and its `vp`, `ip` and `pp`, from the parts that count ("used") and r ohms of the path, 0.0 where they are not to be taken off.
-use Rattle.std.specs.Prelude.{Bool, cond, not, ◌&&◌, ◌||◌, ℕ, get_or, Float}
+use Rattle.std.specs.Prelude.{Bool, if◌then◌else◌, not, ◌&&◌, ◌||◌, ℕ, get_or, Float}
 use Rattle.std.specs.Float.{nan}
 use Rattle.std.specs.Float.Ieee.{lt}
 use Rattle.numbers.specs.Binary32.{◌-f◌, ◌*f◌, zero_f}
@@ -38,21 +38,23 @@ noise_of_q r v i = hypot_of (noise_v *f entry_at nan v_lim r.vr *f i) (v *f nois
 
 -- `(s, q, pf) = (NAN, NAN, NAN)`, and `q = 0.0`
 unfoldable pub no_phase : Figures → Figures
-no_phase f = record { p = f.p; s = nan; q = nan; pf = nan; v = f.v; i = f.i }
+no_phase f = record f { s = nan; q = nan; pf = nan }
 
 unfoldable pub no_reactive : Figures → Figures
-no_reactive f = record { p = f.p; s = f.s; q = zero_f; pf = f.pf; v = f.v; i = f.i }
+no_reactive f = record f { q = zero_f }
 
 -- in method B: by `ac && !(v_ok && i_ok)`, then by `!(v_ok && i_ok) || q < qn`; `both` is `v_ok && i_ok`
 unfoldable pub phase_shown : Bool → Bool → Ranges → Figures → Figures
 phase_shown ac both r f =
-    cond (ac && not both) (no_phase f)
-    (cond (not both || lt f.q (noise_of_q r f.v f.i)) (no_reactive f) f)
+    if ac && not both then no_phase f
+    else if not both || lt f.q (noise_of_q r f.v f.i) then no_reactive f
+    else f
 
 unfoldable pub load_figures : Mode → Reached → Ranges → Parts → Float → Figures
 load_figures m a ranges used r =
-    cond (alternating m) (alt_figures used)
-    (cond (simultaneous m) (phase_shown (ac_only m) (both_reached a) ranges (totals_of used r)) (totals_of used r))
+    if alternating m then alt_figures used
+    else if simultaneous m then phase_shown (ac_only m) (both_reached a) ranges (totals_of used r)
+    else totals_of used r
 
 -- `vp`, `ip` and `pp`, [DC, AC] each: `[vd - r * id, sqrt((va * va - 2.0 * r * pa + r * r * ia * ia).max(0.0))]`, `[id, ia]`, `[vd * id - r * id * id, pa - r * ia * ia]`. "Zero outside AC+DC"
 unfoldable pub at_load : Parts → Float → Split
@@ -67,4 +69,4 @@ at_load p r =
     }
 
 unfoldable pub split : Mode → Parts → Float → Split
-split m used r = cond (ac_dc m) (at_load used r) zero_split
+split m used r = if ac_dc m then at_load used r else zero_split

@@ -1,5 +1,5 @@
 -- The marks of `pw_vals` of the source: `over` and `over_left`, `v_ol` and `i_ol`, `hint`, and `f_ok`, which document 01 carries "in place of `f_hz`".
-use Rattle.std.specs.Prelude.{Bool, true, false, cond, not, ◌&&◌, ◌||◌, ℕ, ◌-◌, ◌/◌, ◌%◌, ◌^◌, eqb, ltb, Option, None, Some, Float}
+use Rattle.std.specs.Prelude.{Bool, true, false, if◌then◌else◌, not, ◌&&◌, ◌||◌, ℕ, ◌-◌, ◌/◌, ◌%◌, ◌^◌, eqb, ltb, Option, None, Some, Float}
 use Rattle.std.specs.Float.{nan}
 use Rattle.std.specs.Float.Ieee.{lt, le}
 use Rattle.numbers.specs.Binary32.{◌*f◌, abs_of}
@@ -41,11 +41,11 @@ over_left Expired = 0
 
 -- `if el >= t_lim { (2, 0) } else { (1, t_lim - el) }`
 unfoldable pub seconds_left : ℕ → ℕ → Countdown
-seconds_left tLim el = cond (ltb el tLim) (Left (tLim - el)) Expired
+seconds_left tLim el = if ltb el tLim then Left (tLim - el) else Expired
 
 -- none where no `over_t0` is set, and where `t_lim` is 0
 unfoldable pub over_limit : Stamp → ℕ → ℕ → Countdown
-over_limit t0 tLim tPoll = cond (t0.set && ltb 0 tLim) (seconds_left tLim (over_elapsed tPoll t0.at)) Stopped
+over_limit t0 tLim tPoll = if t0.set && ltb 0 tLim then seconds_left tLim (over_elapsed tPoll t0.at) else Stopped
 
 -- `v_ol`: `hypot(v_ac, v_dc) > over() * V_LIM[vr]`, and `i_ol` alike; `over` is the description's
 unfoldable pub limits_of : Float → Ranges → Parts → Countdown → Limits
@@ -74,7 +74,7 @@ unfoldable pub ac_is_missed : Mode → ℕ → ℕ → Float → Bool
 ac_is_missed m seen vr vacDc = m.dc && (has_seen seen Voltage && le (floor_of_v vr) vacDc)
 
 unfoldable pub hint : Mode → ℕ → Ranges → Parts → Reached → Option Hint
-hint m seen r p a = cond (dc_is_better m r p a) (Some NoAc) (cond (ac_is_missed m seen r.vr p.vac_dc) (Some Ac) None)
+hint m seen r p a = if dc_is_better m r p a then Some NoAc else if ac_is_missed m seen r.vr p.vac_dc then Some Ac else None
 
 -- HINT_NO_AC and HINT_AC
 unfoldable pub hint_number : Hint → ℕ
@@ -89,5 +89,6 @@ hint_shown (Some h) = hint_number h
 -- no in DC coupling; in method B the comparator's, and the AC part of the channel that it watches (the current on PB4, else the V tap) reaches its floor; in the alternating method yes
 unfoldable pub frequency : Mode → Comparator → Reached → Bool
 frequency m c a =
-    cond m.dc false
-    (cond (simultaneous m) (c.f_ok && cond (eqb c.r20 r20_pb4) a.i_ok a.v_ok) true)
+    if m.dc then false
+    else if simultaneous m then c.f_ok && (if eqb c.r20 r20_pb4 then a.i_ok else a.v_ok)
+    else true

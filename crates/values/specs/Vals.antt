@@ -1,5 +1,5 @@
 -- `pw_vals`, `pw_state` and `integrating` of the source.
-use Rattle.std.specs.Prelude.{Bool, false, cond, not, ◌&&◌, ◌||◌, Option, None, Some, unwrap_or, Float}
+use Rattle.std.specs.Prelude.{Bool, false, if◌then◌else◌, not, ◌&&◌, ◌||◌, Option, None, Some, unwrap_or, Float}
 use Rattle.std.specs.Float.{nan}
 use Rattle.std.specs.Float.Ieee.{lt}
 use Rattle.numbers.specs.Binary32.{◌*f◌}
@@ -33,10 +33,10 @@ in_force m =
 
 -- `vdc`: `if (pw.alt && !pw.dc) || ac { NAN } else { v_dc }`, and `idc`: `if ac { NAN } else { i_dc }`
 unfoldable pub dc_volts : Mode → Float → Float
-dc_volts m vDc = cond (alternating m || ac_only m) nan vDc
+dc_volts m vDc = if alternating m || ac_only m then nan else vDc
 
 unfoldable pub dc_amperes : Mode → Float → Float
-dc_amperes m iDc = cond (ac_only m) nan iDc
+dc_amperes m iDc = if ac_only m then nan else iDc
 
 -- the values of a meter that has measured what it needs. `r` is the path's ohms where `comp` says to take them off, else 0.0; `burden_v` is `i * r_path[iu]` in any case
 unfoldable pub values : Pw → PowerVals
@@ -62,7 +62,7 @@ values m =
 
 -- "None before V, I and P were measured", and while off
 unfoldable pub pw_vals : Pw → Option PowerVals
-pw_vals m = cond (measured m.mode m.cycle.seen) (Some (values m)) None
+pw_vals m = if measured m.mode m.cycle.seen then Some (values m) else None
 
 -- "before the first full set the settings / ranges with zero values": energies too, with no mean power
 unfoldable pub state_only : Pw → PowerVals

@@ -7,8 +7,9 @@ use figures::acc::Acc;
 use figures::tally::Tally;
 
 // The mean power in W over the time counted; a NaN before any is counted, and where the active
-// energy is not.
-#[tactic(auto, using(crate::proofs::Nan::nan_is), unfolding(crate::specs::Energy::mean_power))]
+// energy is not (`active`, the source's `!alt || dc`). `active` is a yes or no, here and in `energies`, and no mode is
+// handed in: `state_only` shows no mean whatever the mode is, and says so with a no.
+#[tactic(auto, using(numbers::proofs::NoNumber::nan_is), unfolding(crate::specs::Energy::mean_power))]
 fn mean_power(active: bool, wh: f32, t_int: u64) -> f32
     ensures { result ≡ mean_power active wh t_int }
 {

@@ -36,7 +36,7 @@ impl Floors {
     }
 }
 
-/// x where `ok`, else 0.0.
+/// x where `ok`, else 0.0: an `if` that five values write alike.
 pub(crate) fn kept_if(ok: bool, x: f32) -> f32
     ensures { result ≡ kept_if ok x }
 {

@@ -15,12 +15,12 @@ use tables::lookups::{i_lim, v_lim};
 use tables::ranges::iu_ir;
 
 // The alternating method: volts, amperes and their product; no power and no phase.
-#[tactic(auto, using(crate::proofs::Nan::nan_is), unfolding(crate::specs::Load::alt_figures))]
+#[tactic(auto, using(numbers::proofs::NoNumber::nan_is), unfolding(crate::specs::Load::alt_figures))]
 fn alt_figures(used: Parts) -> Figures
     ensures { result ≡ alt_figures used }
 {
     let v = used.v_ac;
-    let i = numbers::hypot(used.i_ac, used.i_dc);
+    let i = used.amperes();
     Figures {
         p: f32::NAN,
         s: v * i,
@@ -60,7 +60,7 @@ impl Basis {
 
     // What the simultaneous method shows of the phase: nothing in AC coupling with an AC part below its
     // floor; else no reactive power with one below its floor, or where it is below the noise's.
-    #[tactic(auto, using(crate::proofs::Nan::nan_is), unfolding(crate::specs::Load::phase_shown, crate::specs::Load::no_phase, crate::specs::Load::no_reactive))]
+    #[tactic(auto, using(numbers::proofs::NoNumber::nan_is), unfolding(crate::specs::Load::phase_shown, crate::specs::Load::no_phase, crate::specs::Load::no_reactive))]
     fn phase_shown(self, reached: Reached, figures: Figures) -> Figures
         ensures { result ≡ phase_shown (ac_only self.mode) (both_reached reached) self.ranges figures }
     {

@@ -11,7 +11,7 @@ use state::{Quantity, Stamp, elapsed, has_seen};
 use tables::constants::{HINT_AC, HINT_NO_AC, R20_PB4};
 use tables::lookups::{i_lim, v_lim};
 
-/// The countdown at the continuous current's limit.
+/// The countdown at the continuous current's limit: three cases, and so no `Option`.
 #[derive(Clone, Copy, Debug, PartialEq, Eq)]
 pub enum Countdown {
     Stopped,
@@ -19,20 +19,24 @@ pub enum Countdown {
     Expired,
 }
 
-impl Countdown {
-    ghost use Rattle.values.specs.Marks.{over_number, over_left};
+/// The number by which a host knows it: 0 none, 1 with seconds left, 2 expired.
+impl From<Countdown> for u8 {
+    ghost use Rattle.values.specs.Marks.{over_number};
 
-    // 0 none, 1 with seconds left, 2 expired.
+    ghost from_gives = { λ count number. number ≡ over_number count };
+
     #[tactic(auto, unfolding(crate::specs::Marks::over_number))]
-    fn number(self) -> u8
-        ensures { result ≡ over_number self }
-    {
-        match self {
+    fn from(count: Countdown) -> u8 {
+        match count {
             Countdown::Stopped => 0,
             Countdown::Left(_) => 1,
             Countdown::Expired => 2,
         }
     }
+}
+
+impl Countdown {
+    ghost use Rattle.values.specs.Marks.{over_left};
 
     #[tactic(auto, unfolding(crate::specs::Marks::over_left))]
     fn left(self) -> u16
@@ -52,7 +56,7 @@ pub enum Hint {
     Ac,
 }
 
-/// The number by which a host knows a hint.
+/// The number by which a host knows a hint. Each enum's numbers are its own, so each has its own `From`.
 impl From<Hint> for u8 {
     ghost use Rattle.values.specs.Marks.{hint_number};
 
@@ -72,10 +76,7 @@ impl From<Hint> for u8 {
 pub(crate) fn hint_shown(hint: Option<Hint>) -> u8
     ensures { result ≡ hint_shown hint }
 {
-    match hint {
-        Some(hint) => u8::from(hint),
-        None => 0,
-    }
+    hint.map_or(0, u8::from)
 }
 
 // The seconds since t0; the low 16 bits count.
@@ -91,14 +92,16 @@ fn over_elapsed(t_poll: u64, t0: u64) -> u16
 pub(crate) fn over_limit(t0: Stamp, t_lim: u16, t_poll: u64) -> Countdown
     ensures { result ≡ over_limit t0 t_lim t_poll }
 {
-    if !t0.set || t_lim == 0 {
-        return Countdown::Stopped;
-    }
-    let el = over_elapsed(t_poll, t0.at);
-    if el < t_lim {
-        Countdown::Left(t_lim - el)
-    } else {
-        Countdown::Expired
+    match Option::<u64>::from(t0) {
+        Some(t0) if t_lim > 0 => {
+            let el = over_elapsed(t_poll, t0);
+            if el < t_lim {
+                Countdown::Left(t_lim - el)
+            } else {
+                Countdown::Expired
+            }
+        }
+        _ => Countdown::Stopped,
     }
 }
 
@@ -109,11 +112,9 @@ impl Basis {
         ensures { result ≡ limits_of self.over self.ranges self.parts count }
     {
         Limits {
-            v_ol: numbers::hypot(self.parts.v_ac, self.parts.v_dc)
-                > self.over * v_lim(self.ranges.vr),
-            i_ol: numbers::hypot(self.parts.i_ac, self.parts.i_dc)
-                > self.over * i_lim(self.ranges.ik),
-            over: count.number(),
+            v_ol: self.parts.volts() > self.over * v_lim(self.ranges.vr),
+            i_ol: self.parts.amperes() > self.over * i_lim(self.ranges.ik),
+            over: u8::from(count),
             over_left: count.left(),
         }
     }
@@ -165,17 +166,11 @@ impl Basis {
     pub(crate) fn frequency(self, reached: Reached) -> bool
         ensures { result ≡ frequency self.mode self.comparator reached }
     {
-        if self.mode.dc {
-            false
-        } else if simultaneous(self.mode) {
-            let ok = if self.comparator.r20 == R20_PB4 {
-                reached.i_ok
-            } else {
-                reached.v_ok
-            };
-            self.comparator.f_ok && ok
+        let watched = if self.comparator.r20 == R20_PB4 {
+            reached.i_ok
         } else {
-            true
-        }
+            reached.v_ok
+        };
+        !self.mode.dc && (!simultaneous(self.mode) || self.comparator.f_ok && watched)
     }
 }

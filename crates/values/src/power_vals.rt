@@ -78,7 +78,8 @@ pub struct PowerVals {
 }
 
 impl Split {
-    pub(crate) const ZERO: Split = Split {
+    /// No part of any.
+    pub const ZERO: Split = Split {
         v_dc: 0.0,
         v_ac: 0.0,
         i_dc: 0.0,
@@ -109,12 +110,7 @@ impl PowerVals {
             secs: 0,
             p_avg: f32::NAN,
         },
-        ranges: Ranges {
-            vr: 3,
-            ik: 5,
-            v_auto: true,
-            i_auto: true,
-        },
+        ranges: Ranges::NEW,
         in_force: InForce {
             alt: false,
             dc: false,
@@ -141,7 +137,7 @@ impl Default for PowerVals {
 
     ghost is_default = { λ vals. vals ≡ zero_vals };
 
-    #[tactic(auto, using(crate::proofs::Nan::nan_is), unfolding(crate::specs::PowerVals::zero_vals))]
+    #[tactic(auto, using(numbers::proofs::NoNumber::nan_is), unfolding(crate::specs::PowerVals::zero_vals))]
     fn default() -> PowerVals {
         PowerVals::ZERO
     }

@@ -1,5 +1,5 @@
 //! `pw_vals`, `pw_state` and `integrating` of the source: what a whole meter shows.
-ghost use Rattle.std.specs.Prelude.{◌≡◌, cond};
+ghost use Rattle.std.specs.Prelude.{◌≡◌, if◌then◌else◌};
 ghost use Rattle.std.specs.Float.{nan};
 ghost use Rattle.values.specs.Vals.{values, pw_vals, state_only, pw_state, integrating};
 
@@ -57,6 +57,8 @@ impl From<Pw> for Basis {
     }
 }
 
+/// Of a whole meter. (`accounting` takes the same four fields of a ledger, since a frame's values are worked out while what
+/// it changes is still a ledger and no meter: two structs, so two conversions.)
 impl From<Pw> for Changing {
     ghost use Rattle.values.specs.Divided.{changing_in};
 
@@ -73,10 +75,10 @@ impl From<Pw> for Changing {
     }
 }
 
-// x, or a NaN where it is not to be had.
-#[tactic(auto, using(crate::proofs::Nan::nan_is))]
+// x, or a NaN where it is not to be had: an `if` that two values write alike.
+#[tactic(auto, using(numbers::proofs::NoNumber::nan_is))]
 fn nan_if(hidden: bool, x: f32) -> f32
-    ensures { result ≡ cond hidden nan x }
+    ensures { result ≡ (if hidden then nan else x) }
 {
     if hidden { f32::NAN } else { x }
 }
@@ -151,11 +153,7 @@ fn values(pw: Pw) -> PowerVals
 pub fn pw_vals(pw: Pw) -> Option<PowerVals>
     ensures { result ≡ pw_vals pw }
 {
-    if measured(pw.mode, pw.cycle.seen) {
-        Some(values(pw))
-    } else {
-        None
-    }
+    measured(pw.mode, pw.cycle.seen).then(|| values(pw))
 }
 
 // The ranges, what is in force and the energies, with no mean, beside zeros.
@@ -176,10 +174,7 @@ fn state_only(pw: Pw) -> PowerVals
 pub fn pw_state(pw: Pw) -> PowerVals
     ensures { result ≡ pw_state pw }
 {
-    match pw_vals(pw) {
-        Some(vals) => vals,
-        None => state_only(pw),
-    }
+    pw_vals(pw).unwrap_or_else(|| state_only(pw))
 }
 
 /// Whether energy is being counted with a current above I_FLOOR.
@@ -190,5 +185,5 @@ pub fn integrating(pw: Pw) -> bool
     pw.mode.on
         && pw.clock.run
         && has_seen(pw.cycle.seen, Quantity::Current)
-        && numbers::hypot(pw.parts.i_ac, pw.parts.i_dc) > I_FLOOR
+        && pw.parts.amperes() > I_FLOOR
 }

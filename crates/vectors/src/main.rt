@@ -6,12 +6,17 @@ use codes::Codes;
 use figures::acc::Acc;
 use figures::tally::Tally;
 use formats::format::Format;
+use formats::units::Unit;
 use orders::answer::Step;
+use orders::switches::on;
+use paths::measuring::Setup;
 use state::Pw;
 use std::io;
 use steps::place::Place;
-use tables::calibration::Calibration;
+use tables::constants::{R34_XX, R34_XY, R34_YY};
 use tables::description::Description;
+use tables::ranges::{IuIr, iu_ir};
+use tables::window::cmp_window;
 use takes::take::Measured;
 
 // A row: its number, and whether what the functions give agrees.
@@ -40,13 +45,11 @@ impl Score {
 
 // Whether x has this bit pattern; a NaN has none.
 fn has_bits(x: f32, bits: u32) -> bool {
-    if x != x {
-        return false;
-    }
-    f32::to_bits(x) == bits
+    !x.is_nan() && x.to_bits() == bits
 }
 
-// Whether a frame decodes to these three codes.
+// Whether a frame decodes to these three codes. Here and in `is_signal` they are three numbers, since a `Codes` with
+// its names would take five lines in each of the fourteen rows.
 fn decodes(frame: &[u8], ad1: i32, lpf: i32, rms: i64) -> bool {
     codes::decode(frame).is_ok_and(|codes| codes == Codes { ad1, lpf, rms })
 }
@@ -128,7 +131,7 @@ fn root_rows() -> [Row; 8] {
         (25, has_bits(numbers::sqrt(68719476736.0), 0x4880_0000)),
         (26, has_bits(numbers::sqrt(-1.0), 0)),
         (27, has_bits(numbers::sqrt(-0.0), 0)),
-        (28, of_infinity != of_infinity),
+        (28, of_infinity.is_nan()),
     ]
 }
 
@@ -141,22 +144,6 @@ fn max_rows() -> [Row; 4] {
         (33, has_bits(numbers::max(0.0, -0.0), 0)),
         (34, has_bits(numbers::max(-0.0, 0.0), 0)),
     ]
-}
-
-// Whether current range k has this unit and gain index.
-fn unit_is(k: u8, iu: u8, ir: u8) -> bool {
-    let u = tables::ranges::iu_ir(k);
-    u.iu == iu && u.ir == ir
-}
-
-// Whether the window of c and a has this code.
-fn window_is(c: f32, a: f32, code: u8) -> bool {
-    tables::window::cmp_window(c, a) == Some(code)
-}
-
-// Whether c and a have no window.
-fn no_window(c: f32, a: f32) -> bool {
-    tables::window::cmp_window(c, a).is_none()
 }
 
 // Whether a description with this over ratio, and 1.0 for the other five numbers, is refused.
@@ -172,19 +159,20 @@ fn refused(over: f32) -> bool {
 fn window_rows() -> [Row; 8] {
     let nan = 0.0 / 0.0;
     [
-        (41, unit_is(0, 2, 0)),
-        (42, unit_is(5, 0, 1)),
-        (43, unit_is(200, 0, 1)),
-        (44, window_is(0.0, 0.05, 0xdd)),
-        (45, no_window(0.0, 0.02)),
-        (46, window_is(1.0, 1.0, 0x06)),
-        (47, no_window(nan, 1.0)),
-        (48, no_window(0.0, nan)),
+        (41, iu_ir(0) == IuIr { iu: 2, ir: 0 }),
+        (42, iu_ir(5) == IuIr { iu: 0, ir: 1 }),
+        (43, iu_ir(200) == IuIr { iu: 0, ir: 1 }),
+        (44, cmp_window(0.0, 0.05) == Some(0xdd)),
+        (45, cmp_window(0.0, 0.02).is_none()),
+        (46, cmp_window(1.0, 1.0) == Some(0x06)),
+        (47, cmp_window(nan, 1.0).is_none()),
+        (48, cmp_window(0.0, nan).is_none()),
     ]
 }
 
 // Rows 51 to 55: document 01, "outside 2^-20 to 2^20, ends allowed": the ends, their neighbours
 // outside, a NaN.
+#[tactic(auto, using(std::proofs::lemmas::Float::not_nan_f32_bits))]
 fn description_rows() -> [Row; 5] {
     [
         (51, !refused(f32::from_bits(0x3580_0000))),
@@ -197,10 +185,8 @@ fn description_rows() -> [Row; 5] {
 
 // Whether the step that joins millijoules to a leaves this count and a fraction of these bits.
 fn sum_is(a: Acc, millijoules: f32, mj: i64, bits: u32) -> bool {
-    match figures::acc::step(a, millijoules) {
-        Ok(sum) => sum.acc.mj == mj && has_bits(sum.acc.frac, bits),
-        Err(_) => false,
-    }
+    figures::acc::step(a, millijoules).is_ok_and(|sum| sum.acc.mj == mj
+        && has_bits(sum.acc.frac, bits))
 }
 
 // Whether the step that joins millijoules to a is full.
@@ -211,9 +197,8 @@ fn full(a: Acc, millijoules: f32) -> bool {
 // Whether dt ms more are counted after this time.
 fn counted(t_int: u64, dt: u64) -> bool {
     let tally = Tally {
-        e: Acc::ZERO,
-        va: Acc::ZERO,
         t_int,
+        ..Tally::ZERO
     };
     figures::tally::accounting_step(tally, dt, 0.0, 0.0, true).is_ok()
 }
@@ -225,10 +210,7 @@ fn acc_rows() -> [Row; 7] {
     let added = twice.add(0.0009765625).is_ok() && twice.add(0.0009765625).is_ok();
     [
         (61, added && sum_is(twice, 0.0, 1, 0x3f74_0000)),
-        (
-            62,
-            sum_is(Acc::ZERO, -9223372036854775808.0, -9223372036854775808, 0),
-        ),
+        (62, sum_is(Acc::ZERO, -9223372036854775808.0, i64::MIN, 0)),
         (63, full(Acc::ZERO, -9223373136366403584.0)),
         (64, full(Acc::ZERO, 9223372036854775808.0)),
         (
@@ -243,18 +225,18 @@ fn acc_rows() -> [Row; 7] {
 // Rows 71 to 74: refusal 6 of a count outside signed 64 bits, at both ends. Rows 75 and 76: of the time.
 fn count_rows() -> [Row; 6] {
     let top = Acc {
-        mj: 9223372036854775807,
-        frac: 0.0,
+        mj: i64::MAX,
+        ..Acc::ZERO
     };
     let bottom = Acc {
-        mj: -9223372036854775808,
-        frac: 0.0,
+        mj: i64::MIN,
+        ..Acc::ZERO
     };
     [
         (71, full(top, 1.0)),
-        (72, sum_is(top, 0.5, 9223372036854775807, 0x3f00_0000)),
+        (72, sum_is(top, 0.5, i64::MAX, 0x3f00_0000)),
         (73, full(bottom, -1.0)),
-        (74, sum_is(bottom, -0.5, -9223372036854775808, 0xbf00_0000)),
+        (74, sum_is(bottom, -0.5, i64::MIN, 0xbf00_0000)),
         (75, counted(9223372036854775806, 1)),
         (76, !counted(9223372036854775806, 2)),
     ]
@@ -274,10 +256,10 @@ fn totals_rows() -> [Row; 6] {
     ]
 }
 
-// Whether a meter just made takes this RMS code with this R34.
+// Whether a meter just made takes this RMS code with this R34: the register's number for XY, XX or YY.
 fn takes_rms(stat: u8, rms: i64) -> bool {
     let pw = meter::making::plain_meter();
-    let with = paths::whole::instrument_in(pw);
+    let setup = Setup::from(pw);
     let before = Measured {
         parts: pw.parts,
         seen: 0,
@@ -288,97 +270,102 @@ fn takes_rms(stat: u8, rms: i64) -> bool {
         lpf: 0,
         rms,
     };
-    takes::take::take(with, pw.ranges, stat, codes, before).is_some()
+    setup.with.take(pw.ranges, stat, codes, before).is_some()
 }
 
 // Rows 91 to 94: document 01, XY RMS 2^36 is taken and 2^36 + 1 turned down, and so below zero. Rows 95
-// to 98: where the root, as decided, of XX (80 hex) and YY (8C hex) exceeds 262,144.
+// to 98: where the root, as decided, of XX and YY exceeds 262,144.
 fn limit_rows() -> [Row; 8] {
     [
-        (91, takes_rms(0x88, 68719476736)),
-        (92, !takes_rms(0x88, 68719476737)),
-        (93, takes_rms(0x88, -68719476736)),
-        (94, !takes_rms(0x88, -68719476737)),
-        (95, takes_rms(0x80, 68719489023)),
-        (96, !takes_rms(0x80, 68719489024)),
-        (97, takes_rms(0x8C, 68719489023)),
-        (98, !takes_rms(0x8C, 68719489024)),
+        (91, takes_rms(R34_XY, 68719476736)),
+        (92, !takes_rms(R34_XY, 68719476737)),
+        (93, takes_rms(R34_XY, -68719476736)),
+        (94, !takes_rms(R34_XY, -68719476737)),
+        (95, takes_rms(R34_XX, 68719489023)),
+        (96, !takes_rms(R34_XX, 68719489024)),
+        (97, takes_rms(R34_YY, 68719489023)),
+        (98, !takes_rms(R34_YY, 68719489024)),
     ]
 }
 
-// Whether a format has this number by its bits, these decimals, and the unit of this number.
-fn is_format(f: Format, bits: u32, decimals: u8, unit: u8) -> bool {
-    f.decimals == decimals && u8::from(f.unit) == unit && has_bits(f.number, bits)
+// Whether a format has this number by its bits, these decimals and this unit.
+fn is_format(f: Format, bits: u32, decimals: u8, unit: Unit) -> bool {
+    f.decimals == decimals && f.unit == unit && has_bits(f.number, bits)
 }
 
 // Rows 99 and 100: document 01, `energy_format` 0.5 Wh and 0.5 VAh. Row 101: 100,000 VAh, where 1e-3 is
-// not exact. Row 102: 1000 Wh is 1 kWh. In units 11 is mWh, 12 kWh, 13 VAh and 14 kVAh.
+// not exact. Row 102: 1000 Wh is 1 kWh.
 fn format_rows() -> [Row; 4] {
     let half = formats::format::energy_format(0.5, false);
     let apparent = formats::format::energy_format(0.5, true);
     let large = formats::format::energy_format(100_000.0, true);
     let kilo = formats::format::energy_format(1000.0, false);
     [
-        (99, is_format(half, 0x43FA_0000, 2, 11)),
-        (100, is_format(apparent, 0x3F00_0000, 4, 13)),
-        (101, is_format(large, 0x42C8_0001, 2, 14)),
-        (102, is_format(kilo, 0x3F80_0000, 4, 12)),
+        (99, is_format(half, 0x43FA_0000, 2, Unit::MilliwattHour)),
+        (
+            100,
+            is_format(apparent, 0x3F00_0000, 4, Unit::VoltAmpereHour),
+        ),
+        (
+            101,
+            is_format(large, 0x42C8_0001, 2, Unit::KilovoltAmpereHour),
+        ),
+        (102, is_format(kilo, 0x3F80_0000, 4, Unit::KilowattHour)),
     ]
 }
 
-// Whether the power has these decimals and the unit of this number in a pair of ranges.
-fn shows_power(vr: u8, ik: u8, decimals: u8, unit: u8) -> bool {
+// Whether the power has these decimals and this unit in a pair of ranges.
+fn shows_power(vr: u8, ik: u8, decimals: u8, unit: Unit) -> bool {
     let fs = tables::lookups::v_lim(vr) * tables::lookups::i_lim(ik);
     let f = formats::format::p_format(fs, 1.0, true);
-    f.decimals == decimals && u8::from(f.unit) == unit
+    f.decimals == decimals && f.unit == unit
 }
 
-// Rows 103 to 114: the published `p_format` of 6 V and 60 V with each current range. In units 4 is W and 5
-// is mW.
+// Rows 103 to 114: the published `p_format` of 6 V and 60 V with each current range.
 fn low_power_rows() -> [Row; 12] {
     [
-        (103, shows_power(0, 0, 4, 5)),
-        (104, shows_power(0, 1, 3, 5)),
-        (105, shows_power(0, 2, 2, 5)),
-        (106, shows_power(0, 3, 4, 4)),
-        (107, shows_power(0, 4, 3, 4)),
-        (108, shows_power(0, 5, 3, 4)),
-        (109, shows_power(1, 0, 3, 5)),
-        (110, shows_power(1, 1, 2, 5)),
-        (111, shows_power(1, 2, 4, 4)),
-        (112, shows_power(1, 3, 3, 4)),
-        (113, shows_power(1, 4, 2, 4)),
-        (114, shows_power(1, 5, 2, 4)),
+        (103, shows_power(0, 0, 4, Unit::Milliwatt)),
+        (104, shows_power(0, 1, 3, Unit::Milliwatt)),
+        (105, shows_power(0, 2, 2, Unit::Milliwatt)),
+        (106, shows_power(0, 3, 4, Unit::Watt)),
+        (107, shows_power(0, 4, 3, Unit::Watt)),
+        (108, shows_power(0, 5, 3, Unit::Watt)),
+        (109, shows_power(1, 0, 3, Unit::Milliwatt)),
+        (110, shows_power(1, 1, 2, Unit::Milliwatt)),
+        (111, shows_power(1, 2, 4, Unit::Watt)),
+        (112, shows_power(1, 3, 3, Unit::Watt)),
+        (113, shows_power(1, 4, 2, Unit::Watt)),
+        (114, shows_power(1, 5, 2, Unit::Watt)),
     ]
 }
 
-// Rows 115 to 126: the published `p_format` of 600 V and 1000 V with each current range. In units 4 is W, 5 mW
-// and 6 kW.
+// Rows 115 to 126: the published `p_format` of 600 V and 1000 V with each current range.
 fn high_power_rows() -> [Row; 12] {
     [
-        (115, shows_power(2, 0, 2, 5)),
-        (116, shows_power(2, 1, 4, 4)),
-        (117, shows_power(2, 2, 3, 4)),
-        (118, shows_power(2, 3, 2, 4)),
-        (119, shows_power(2, 4, 1, 4)),
-        (120, shows_power(2, 5, 1, 4)),
-        (121, shows_power(3, 0, 2, 5)),
-        (122, shows_power(3, 1, 4, 4)),
-        (123, shows_power(3, 2, 3, 4)),
-        (124, shows_power(3, 3, 2, 4)),
-        (125, shows_power(3, 4, 1, 4)),
-        (126, shows_power(3, 5, 3, 6)),
+        (115, shows_power(2, 0, 2, Unit::Milliwatt)),
+        (116, shows_power(2, 1, 4, Unit::Watt)),
+        (117, shows_power(2, 2, 3, Unit::Watt)),
+        (118, shows_power(2, 3, 2, Unit::Watt)),
+        (119, shows_power(2, 4, 1, Unit::Watt)),
+        (120, shows_power(2, 5, 1, Unit::Watt)),
+        (121, shows_power(3, 0, 2, Unit::Milliwatt)),
+        (122, shows_power(3, 1, 4, Unit::Watt)),
+        (123, shows_power(3, 2, 3, Unit::Watt)),
+        (124, shows_power(3, 3, 2, Unit::Watt)),
+        (125, shows_power(3, 4, 1, Unit::Watt)),
+        (126, shows_power(3, 5, 3, Unit::Kilowatt)),
     ]
 }
 
-// Whether the null at `s` steps has this result and these steps, 0 where it has none.
+// Whether the null at `s` steps has this result and these steps, 0 where it has none. The result goes by its
+// number, as `cal_res` holds it: 2 is CAL_OK, 3 CAL_FLAT and 5 CAL_RANGE.
 fn has_outcome(s: f32, number: u8, steps: i8) -> bool {
     let outcome = phase::cal_outcome(s);
     phase::cal_number(outcome) == number && outcome.unwrap_or(0) == steps
 }
 
 // Rows 127 to 129: document 01, `cal_outcome` 127.49, 127.5 and infinite. Rows 130 to 134: the same below
-// zero, of a NaN, and halves, by the published text. 2 is CAL_OK, 3 CAL_FLAT and 5 CAL_RANGE.
+// zero, of a NaN, and halves, by the published text.
 fn outcome_rows() -> [Row; 8] {
     [
         (127, has_outcome(127.49, 2, 127)),
@@ -386,7 +373,7 @@ fn outcome_rows() -> [Row; 8] {
         (129, has_outcome(1.0 / 0.0, 3, 0)),
         (130, has_outcome(-127.49, 2, -127)),
         (131, has_outcome(-127.5, 5, 0)),
-        (132, has_outcome(numbers::nan(), 3, 0)),
+        (132, has_outcome(f32::NAN, 3, 0)),
         (133, has_outcome(0.5, 2, 1)),
         (134, has_outcome(-0.5, 2, -1)),
     ]
@@ -426,52 +413,32 @@ fn signal_rows() -> [Row; 8] {
     ]
 }
 
-// `pwline`'s meter, on where asked for.
-fn plain(on: bool) -> Pw {
-    let new = meter::making::plain_meter();
-    if on {
-        orders::switches::on(new, 0).pw
-    } else {
-        new
-    }
-}
-
-// The number that a call answers.
+// The number that a call answers, here and in `frame_says`: the rows of document 01 name a refusal by its number.
 fn says(step: Step) -> u8 {
-    match step.answer {
-        Ok(_) => 0,
-        Err(refusal) => refusals::number(refusal),
-    }
+    refusals::told_number(&step.answer)
 }
 
-// What a frame of 14 bytes is answered with, and one of 13.
-fn whole_says(on: bool, time: u64) -> u8 {
-    let frame: [u8; 14] = [0; 14];
-    says(meter::frame::poll(plain(on), time, 28, &frame))
-}
-
-fn short_says(on: bool, time: u64) -> u8 {
-    let frame: [u8; 13] = [0; 13];
-    says(meter::frame::poll(plain(on), time, 28, &frame))
+// What a frame of these bytes is answered with.
+fn frame_says(pw: Pw, time: u64, bytes: &[u8]) -> u8 {
+    says(meter::frame::poll(pw, time, 28, bytes))
 }
 
 // Rows 147 to 150: document 01, time 2^48 - 1 and 2^48, of an order and of a frame. Rows 151 to 153: its
 // order of refusals, 5, 4, 1.
 fn refusal_rows() -> [Row; 7] {
+    let late: u64 = 281474976710656;
+    let off = meter::making::plain_meter();
+    let running = on(off, 0).pw;
+    let whole = [0; 14];
+    let short = [0; 13];
     [
-        (
-            147,
-            says(orders::switches::on(plain(false), 281474976710655)) == 0,
-        ),
-        (
-            148,
-            says(orders::switches::on(plain(false), 281474976710656)) == 5,
-        ),
-        (149, whole_says(true, 281474976710655) == 0),
-        (150, whole_says(true, 281474976710656) == 5),
-        (151, short_says(false, 281474976710656) == 5),
-        (152, short_says(false, 0) == 4),
-        (153, whole_says(false, 0) == 1),
+        (147, says(on(off, late - 1)) == 0),
+        (148, says(on(off, late)) == 5),
+        (149, frame_says(running, late - 1, &whole) == 0),
+        (150, frame_says(running, late, &whole) == 5),
+        (151, frame_says(off, late, &short) == 5),
+        (152, frame_says(off, 0, &short) == 4),
+        (153, frame_says(off, 0, &whole) == 1),
     ]
 }
 
