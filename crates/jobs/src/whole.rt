@@ -26,6 +26,7 @@ pub struct Polled {
 }
 
 /// The part of a meter that a job works on.
+// Field by field, here and in `put_into`: the meter has no `Bench` in it, since a C host keeps it in the source's groups.
 impl From<Pw> for Bench {
     ghost from_gives = { λ pw bench. bench ≡ bench_in pw };
 

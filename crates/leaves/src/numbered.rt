@@ -3,8 +3,8 @@
 //! are 1, 2, 3 and so on in the order of declaration, 128 as a signed byte being -128; the bools are yes and
 //! no in turn.
 //! The arrays of six, sixteen and 73 whole numbers are compared entry by entry: `==` was tried, and its proof did not
-//! close. Field by field go `Parts`, `Powers`, `Tally`, `Settings` and `PhaseCal`, and what `Job` and `Corrections` have
-//! besides those arrays: these have floats in them and so derive no equality, since a NaN equals nothing, itself neither.
+//! close. Field by field go `Description`, `Parts`, `Powers`, `Tally`, `Settings` and `PhaseCal`, and what `Job` and
+//! `Corrections` have besides those arrays: they hold floats and derive no equality, which nothing but this test would use.
 ghost use Rattle.std.specs.Prelude.{◌≡◌};
 ghost use Rattle.leaves.specs.Numbered.{numbered_meter, is_description, is_calibration, is_mode, is_ranges, is_cycle, is_parts, is_powers, is_tally, is_clock, is_over_t0, is_settings, is_phase_cal, is_corrections, is_job_steps, is_job_save, is_job_rest, is_comparator, is_ring_marks, is_ring_codes, is_ring_times, is_front, is_back, is_numbered};
 
@@ -276,7 +276,7 @@ fn is_tally(x: Tally) -> bool
     r & (x.va.frac == 109.0) & (x.t_int == 110)
 }
 
-// A stamp is read field by field, here and in `is_over_t0`: what a C host left in `at` counts too where `set` is no.
+// The equality of a stamp, here and in `is_over_t0`, also compares `at` where `set` is no: what a C host left there counts.
 fn is_clock(x: Clock) -> bool
     ensures { result ≡ is_clock x }
 {

@@ -27,7 +27,7 @@ struct Entered {
 }
 
 /// What a frame outside a job comes to: what its path and its accounting change, the mark, the reading, whether
-/// an AD1 result was taken.
+/// an AD1 result was taken. (No `Outcome` in it: whether that goes on to the values says nothing once they are entered.)
 #[derive(Clone, Copy)]
 pub struct Measurement {
     pub measuring: Measuring,

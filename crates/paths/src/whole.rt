@@ -6,7 +6,7 @@ use crate::measuring::{Measuring, Setup};
 use state::{Pw, Ring};
 use takes::scales::Instrument;
 
-// The meter goes by value here, since document 01 has the state go so, and lends the accumulator alone.
+// The meter goes by value here, as everywhere: document 01 has the state go so.
 
 /// What a path reads and never changes: the description, the calibration words and the corrections, which readings are
 /// worked out with, and the mode.

@@ -114,7 +114,8 @@ too_active c = lt cal_pf_max (abs_of (round_mean c))
 -- `if cal == 1 && m.abs() > CAL_PF_MAX { .. } else if cal == 1 { .. } else { .. }`: all but the first have `cal_req = true`
 unfoldable pub round_ended : PhaseCal → Bool → PhaseStep
 round_ended c req =
-    if eqb c.cal 1 then (if too_active c then record { phase_cal = not_reactive c; cal_req = req }
+    if eqb c.cal 1 then
+    (if too_active c then record { phase_cal = not_reactive c; cal_req = req }
     else record { phase_cal = on_trial c (round_mean c); cal_req = true })
     else record { phase_cal = finished c (round_mean c); cal_req = true }
 

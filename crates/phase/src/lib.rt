@@ -60,7 +60,7 @@ pub fn cal_outcome(s: f32) -> Result<i8, CalError>
 }
 
 /// An outcome's number, as `cal_res` holds it: one of the source's `CAL_` numbers. (A job's end and a refusal have numbers of
-/// their own, by `result_number` and `told_number`. A function, since no crate may write a `From` for a `Result`.)
+/// their own, by `result_number` and `told_number`. A function, since neither `Result` nor `u8` is of this crate.)
 pub fn cal_number(outcome: Result<i8, CalError>) -> u8
     ensures { result ≡ cal_number outcome }
 {

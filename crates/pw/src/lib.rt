@@ -18,9 +18,10 @@ ghost use Rattle.pw.specs.Host.{frame_codes, host_window, host_format};
 pub mod calls;
 pub mod shown;
 
+use codes::Codes;
 use figures::acc::Acc;
 use formats::format::Format;
-use refusals::told_number;
+use refusals::{Refusal, told_number};
 
 /// `struct pw_codes`: the refusal's number, and the codes of the frame, 0 where it is refused. C has no `Result`.
 #[derive(Clone, Copy)]
@@ -32,27 +33,34 @@ pub struct FrameCodes {
     pub rms: i64,
 }
 
+impl From<Result<Codes, Refusal>> for FrameCodes {
+    ghost from_gives = { λ answer codes. codes ≡ frame_codes answer };
+
+    #[tactic(auto, unfolding(crate::specs::Host::frame_codes))]
+    fn from(answer: Result<Codes, Refusal>) -> FrameCodes {
+        let refusal = told_number(&answer);
+        match answer {
+            Ok(c) => FrameCodes {
+                refusal,
+                ad1: c.ad1,
+                lpf: c.lpf,
+                rms: c.rms,
+            },
+            Err(_) => FrameCodes {
+                refusal,
+                ad1: 0,
+                lpf: 0,
+                rms: 0,
+            },
+        }
+    }
+}
+
 /// The codes of the frame in the host's bytes, which are read and not written.
-#[tactic(auto, unfolding(crate::specs::Host::frame_codes))]
 pub fn pw_decode(bytes: &[u8]) -> FrameCodes
     ensures { result ≡ frame_codes (decoded bytes.now) }
 {
-    let answer = codes::decode(bytes);
-    let refusal = told_number(&answer);
-    match answer {
-        Ok(c) => FrameCodes {
-            refusal,
-            ad1: c.ad1,
-            lpf: c.lpf,
-            rms: c.rms,
-        },
-        Err(_) => FrameCodes {
-            refusal,
-            ad1: 0,
-            lpf: 0,
-            rms: 0,
-        },
-    }
+    FrameCodes::from(codes::decode(bytes))
 }
 
 /// `struct pw_window`: whether a window was found, and R21, 0 where none was. C has no `Option`.
@@ -63,21 +71,23 @@ pub struct HostWindow {
     pub r21: u8,
 }
 
+impl From<Option<u8>> for HostWindow {
+    ghost from_gives = { λ window shown. shown ≡ host_window window };
+
+    #[tactic(auto, unfolding(crate::specs::Host::host_window))]
+    fn from(window: Option<u8>) -> HostWindow {
+        HostWindow {
+            found: window.is_some(),
+            r21: window.unwrap_or(0),
+        }
+    }
+}
+
 /// The comparator's window for a middle of c volts and a swing of a volts.
-#[tactic(auto, unfolding(crate::specs::Host::host_window))]
 pub fn pw_cmp_window(c: f32, a: f32) -> HostWindow
     ensures { result ≡ host_window (cmp_window c a) }
 {
-    match tables::window::cmp_window(c, a) {
-        None => HostWindow {
-            found: false,
-            r21: 0,
-        },
-        Some(code) => HostWindow {
-            found: true,
-            r21: code,
-        },
-    }
+    HostWindow::from(tables::window::cmp_window(c, a))
 }
 
 /// The number of the kind of row that the host writes at a mark.

@@ -1,6 +1,6 @@
 -- What follows from the definitions: which quantities an apply leaves marked, what an autorange leaves as it was, that ranges stay within the tables, that `stat` goes with the phase, and what a mark holds.
 use mathlib.Core.Bool.{Bool, true, false, cond, ◌&&◌}
-use mathlib.Core.Path.{◌≡◌, refl}
+use mathlib.Core.Path.{◌≡◌, refl, ap}
 use Prim.Native.Nat.{ℕ, ◌+◌, ◌-◌, ◌/◌, ◌%◌, ◌≤◌, min}
 use native.Mathlib.Omega.{arith}
 use borrow.Author.Tests.{ltb-true}
@@ -100,7 +100,14 @@ module _ (d : Description) (mode : Mode) (p : Parts) (g : Ranging) (now : ℕ) w
       go false None = (refl, refl, refl)
       go false (Some ik) = (refl, refl, refl)
 
-  -- where no range is asked for, none is applied; so the V range, set by hand, stays
+  -- where no range is applied, nothing has changed
+  pub v_unmarked : autorange of.Voltage d mode p g now ≡ None → after g (autorange of.Voltage d mode p g now) ≡ g
+  v_unmarked none = ap (after g) none
+
+  pub i_unmarked : autorange of.Current d mode p g now ≡ None → after g (autorange of.Current d mode p g now) ≡ g
+  i_unmarked none = ap (after g) none
+
+  -- and none is applied where none is asked for; so the V range, set by hand, stays
   pub v_unasked : v_change d g.ranges p ≡ None → autorange of.Voltage d mode p g now ≡ None
   unfolding autorange asked asked_v
   v_unasked none = rw none refl

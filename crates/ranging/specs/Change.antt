@@ -53,6 +53,7 @@ least_ik aAuto barred = if aAuto then max (shunt_floor barred) 2 else shunt_floo
 -- the current channel's, 0 to 5; over range on the mA or uA shunt hops to 4, 6 A
 unfoldable pub i_change : Description → Ranges → ℕ → Parts → Option ℕ
 i_change d r barred p =
-    if r.i_auto then (if is_over d.over r.ik p && leb 1 (iu_ir r.ik).iu then Some 4
+    if r.i_auto then
+    (if is_over d.over r.ik p && leb 1 (iu_ir r.ik).iu then Some 4
     else step d.over (entry_at nan i_lim r.ik) (hypot_of p.i_ac p.i_dc) r.ik (least_ik d.a_auto barred) 5)
     else None

@@ -21,7 +21,7 @@ pub enum JobError {
     Abort,
 }
 
-/// The number of each, as `job_res` holds it.
+/// The number of each, as `job_res` holds it, by the source's named constants.
 impl From<JobError> for u8 {
     ghost from_gives = { λ error number. number ≡ error_number error };
 
@@ -37,7 +37,7 @@ impl From<JobError> for u8 {
     }
 }
 
-/// The number of a job's end, as `job_res` holds it. (A function, since no crate may write a `From` for a `Result`.
+/// The number of a job's end, as `job_res` holds it. (A function, since neither `Result` nor `u8` is of this crate.
 /// Not one function with `told_number` of refusals and `cal_number` of phase: each gives numbers of its own, this one
 /// the source's `JR_` ones.)
 pub fn result_number(end: Result<(), JobError>) -> u8

@@ -54,9 +54,9 @@ fn raw_reading(vr: u8, zero: i16, codes: Codes) -> Reading
     Reading { x, y }
 }
 
-// The calibration goes by value, as the state does: document 01 lends the accumulator alone. It goes beside the V
-// range, the corrections and the codes, and not in takes' `Instrument`, which holds words and corrections: that
-// brings the description too, which no step reads, and which the part of a meter that a job works on does not have.
+// The calibration goes beside the V range, the corrections and the codes, and not in takes' `Instrument`, which holds
+// words and corrections: that brings the description too, which no step reads, and which the part of a meter that a job
+// works on does not have.
 
 // Volts of the AD1 code by the factory's DC V words.
 #[tactic(auto, unfolding(crate::specs::Reading::ad1_volts, tables::specs::Bounds::at_most))]

@@ -37,7 +37,7 @@ fn is_dc(dc: bool, job: u8, step: u8) -> bool
 {
     match job {
         0 => dc,
-        JOB_ZERO => 6 <= step && step < 12,
+        JOB_ZERO => (6..12).contains(&step),
         _ => false,
     }
 }

@@ -38,6 +38,7 @@ pub struct Changing {
     pub phase_cal: PhaseCal,
 }
 
+// Field by field, here and below: the meter has neither of the two in it, since a C host keeps it in the source's groups.
 impl From<Pw> for Basis {
     ghost use Rattle.values.specs.Divided.{basis_in};
 

@@ -137,7 +137,7 @@ fn root_rows() -> [Row; 8] {
 
 // Rows 31 to 34: document 01, `max` of a NaN and a number, and of two zeros of unlike sign.
 fn max_rows() -> [Row; 4] {
-    let nan = 0.0 / 0.0;
+    let nan = f32::NAN;
     [
         (31, has_bits(numbers::max(nan, -2.0), 0xc000_0000)),
         (32, has_bits(numbers::max(-2.0, nan), 0xc000_0000)),
@@ -157,7 +157,7 @@ fn refused(over: f32) -> bool {
 
 // Rows 41 to 48: document 01, `iu_ir` and the three windows; a middle or a swing that is a NaN.
 fn window_rows() -> [Row; 8] {
-    let nan = 0.0 / 0.0;
+    let nan = f32::NAN;
     [
         (41, iu_ir(0) == IuIr { iu: 2, ir: 0 }),
         (42, iu_ir(5) == IuIr { iu: 0, ir: 1 }),
@@ -179,7 +179,7 @@ fn description_rows() -> [Row; 5] {
         (52, refused(f32::from_bits(0x357f_ffff))),
         (53, !refused(f32::from_bits(0x4980_0000))),
         (54, refused(f32::from_bits(0x4980_0001))),
-        (55, refused(0.0 / 0.0)),
+        (55, refused(f32::NAN)),
     ]
 }
 
@@ -218,7 +218,7 @@ fn acc_rows() -> [Row; 7] {
             sum_is(Acc::ZERO, 9223371487098961920.0, 9223371487098961920, 0),
         ),
         (66, full(Acc::ZERO, 1.0 / 0.0)),
-        (67, full(Acc::ZERO, 0.0 / 0.0)),
+        (67, full(Acc::ZERO, f32::NAN)),
     ]
 }
 
