@@ -122,7 +122,7 @@ fn length_rows() -> [Row; 4] {
 
 // Rows 21 to 28: the root of dmm.rs. Of 3 it is not IEEE 754's 3FDDB3D7; of infinity it is a NaN.
 fn root_rows() -> [Row; 8] {
-    let of_infinity = numbers::sqrt(1.0 / 0.0);
+    let of_infinity = numbers::sqrt(f32::INFINITY);
     [
         (21, has_bits(numbers::sqrt(3.0), 0x3fdd_b3d8)),
         (22, has_bits(numbers::sqrt(6.0), 0x401c_c470)),
@@ -217,7 +217,7 @@ fn acc_rows() -> [Row; 7] {
             65,
             sum_is(Acc::ZERO, 9223371487098961920.0, 9223371487098961920, 0),
         ),
-        (66, full(Acc::ZERO, 1.0 / 0.0)),
+        (66, full(Acc::ZERO, f32::INFINITY)),
         (67, full(Acc::ZERO, f32::NAN)),
     ]
 }
@@ -370,7 +370,7 @@ fn outcome_rows() -> [Row; 8] {
     [
         (127, has_outcome(127.49, 2, 127)),
         (128, has_outcome(127.5, 5, 0)),
-        (129, has_outcome(1.0 / 0.0, 3, 0)),
+        (129, has_outcome(f32::INFINITY, 3, 0)),
         (130, has_outcome(-127.49, 2, -127)),
         (131, has_outcome(-127.5, 5, 0)),
         (132, has_outcome(f32::NAN, 3, 0)),
