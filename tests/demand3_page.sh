@@ -1,7 +1,8 @@
 #!/bin/bash
 # demand3_page.sh: docs/DEMAND3.md quotes the definitions as they stand, each in the file named above its table; its
 # tables of edits have those of crates/book and crates/host_calls, in their words; and the C functions have the contracts
-# of those in crates/pw that crates/host_calls calls, whose contracts state the theorem of them.
+# of those in crates/pw that crates/host_calls calls, whose contracts state the theorem of them: one function for each call,
+# on its own arguments in their order.
 set -euo pipefail
 cd "$(dirname "${BASH_SOURCE[0]}")/.."
 page=docs/DEMAND3.md
@@ -60,6 +61,26 @@ for file in calls shown lib; do
     exports=$((exports + $(contracts crates/pw_c/src/$file.rt | grep -c '^pub fn')))
 done
 [ "$exports" -eq "$(grep -c 'no_mangle' crates/pw_c/src/*.rt | awk -F: '{n += $2} END {print n}')" ] || fail "$exports contracts were read"
+
+# The functions that hand back a meter: name, parameters behind the meter, and the call whose step they return.
+returned=$(sed -n '/^pub extern "C" fn .*-> HostStep$/{N;s/^pub extern "C" fn \([a-z_]*\)(meter: Pw\(.*\)) -> HostStep\n *ensures { result ≡ host_step (step meter \(.*\)) }$/\1\2 = \3/;s/, \([a-z]*\): [^,=]*[^,= ]/ \1/g;p}' crates/pw_c/src/calls.rt)
+diff <(cat << 'END'
+pw_on time = (On time)
+pw_off time = (Off time)
+pw_method time alt = (Method time alt)
+pw_ranges time v i = (SetRanges time (ask_of v) (ask_of i))
+pw_coupling time coup = (Coupling time coup)
+pw_zero_job time = (ZeroJob time)
+pw_gain_job time = (GainJob time)
+pw_phase_start = PhaseStart
+pw_energy_reset = EnergyReset
+pw_run run = (Run run)
+pw_set_settings settings = (SetSettings settings)
+pw_reapply time = (Reapply time)
+pw_frame time flags bytes = (Frame time flags bytes.now)
+END
+) <(echo "$returned") || fail "a contract of the C interface is another"
+grep -q -F -x '    ensures { result ≡ host_made (make description words.now valid) }' crates/pw_c/src/calls.rt || fail "the contract of pw_make is another"
 
 # Each C function that hands back a meter is one that a host's calls are run by, and they are all the calls there are.
 calls=$(sed -n 's/^pub extern "C" fn \([a-z_]*\)(.*-> HostStep$/\1/p' crates/pw_c/src/calls.rt | sort)

@@ -1,12 +1,13 @@
 -- What follows from the definition: what an accounting leaves as it was, and what it does to the counted time and to the last time.
-use mathlib.Core.Path.{◌≡◌, refl}
-use mathlib.Core.Bool.{Bool, true, false, not, ◌&&◌}
+use mathlib.Core.Path.{◌≡◌, refl, sym}
+use mathlib.Core.Bool.{Bool, true, false, not, ◌&&◌, true≢false}
 use Prim.Native.Nat.{ℕ, ◌+◌, ◌^◌, ◌≤◌}
 use native.Mathlib.Omega.{arith}
 use lib.Dec.{ltb}
 use lib.IntN.{pos}
 use lib.Ieee.{Float}
-use Rattle.std.specs.Prelude.{Result, Ok, Err, IfOk, IsOkAnd}
+use Rattle.std.specs.Prelude.{Result, Ok, Err, IfOk, IsOkAnd, is_err}
+use Rattle.std.specs.Result.{result_unwrap_or}
 use Rattle.numbers.specs.Binary32.{◌*f◌}
 use Rattle.numbers.proofs.Cases.{either}
 use Rattle.refusals.specs.declared.Refusal.{Refusal}
@@ -58,6 +59,14 @@ module _ (m : Pw) (load : Figures) (now : ℕ) where
       go : (a : Result Counted Refusal) → OnlyFull a → OnlyFull (account_by m load now a)
       go (Ok c) f = tt
       go (Err r) f = f
+
+  -- full: "whole frame undone": with a refused accounting no meter comes, and the one that is kept is as it was
+  pub full_undone : is_err (account m load now) ≡ true → result_unwrap_or (account m load now) m ≡ m
+  full_undone = go (account m load now)
+    where
+      go : (a : Result Pw Refusal) → is_err a ≡ true → result_unwrap_or a m ≡ m
+      go (Ok n) e = absurd (true≢false (sym e))
+      go (Err r) e = refl
 
   -- document 01: "its time becomes the last (none while stopped)", where the accounting is not refused
   pub last_time_law : IfOk (account m load now) (λ n. n.clock.t_last ≡ last_time m.clock.run now)

@@ -62,6 +62,8 @@ fn sum_in_range(x: f32) -> bool
 
 /// The accumulator's own step: millijoules join the fraction, and the sum's whole part moves over to
 /// the count. Full where the sum or the new count is out of range.
+// Inlined, as `add_to`: a sum that a call hands back goes through memory, and a host's add waits for it there.
+#[inline]
 #[tactic(auto, using(crate::proofs::Step::out_case, crate::proofs::Step::full_case, crate::proofs::Step::sum_case, crate::proofs::Exactly::exact_of))]
 pub fn step(a: Acc, millijoules: f32) -> Result<Sum, Refusal>
     ensures is { result ≡ acc_step a millijoules }
@@ -81,6 +83,7 @@ pub fn step(a: Acc, millijoules: f32) -> Result<Sum, Refusal>
 }
 
 /// The source's `Acc::add`, by value.
+#[inline]
 #[tactic(auto, unfolding(crate::specs::Acc::add_to))]
 pub fn add_to(a: Acc, joules: f32) -> Result<Sum, Refusal>
     ensures is { result ≡ add_to a joules }

@@ -1,10 +1,8 @@
 //! A job's beginning, the beginning of each of its steps, and its end.
 ghost use Rattle.std.specs.Prelude.{◌≡◌};
-ghost use Rattle.steps.specs.Error.{result_number};
-ghost use Rattle.jobs.specs.Bench.{kind_in, place_in, unmarked, ended, ended_if_any, step_at, next, begun, turned_away};
+ghost use Rattle.jobs.specs.Bench.{kind_in, place_in, unmarked, ended, step_at, next, begun, turned_away};
 
 use state::{Corrections, Cycle, Job, Mode, Ranges, count_up, deadline};
-use steps::error::{JobError, result_number};
 use steps::place::{Kind, Place};
 use tables::constants::{JR_METHOD, JR_RUN};
 
@@ -54,37 +52,17 @@ impl Bench {
         Place::of(self.kind(), self.job.job_dc, self.job.job_step)
     }
 
-    /// The running job ends: the ranges and automatic marks found at its start come back, and the host is
+    /// The running job ends with this result: the ranges and automatic marks found at its start come back, and the host is
     /// to re-apply if the meter is on. What is stored of zeros and gains stays.
     #[tactic(auto, unfolding(crate::specs::Bench::ended))]
-    pub(crate) fn end_with(self, end: Result<(), JobError>) -> Bench
-        ensures { result ≡ ended (result_number end) self }
+    pub(crate) fn end_with(mut self, res: u8) -> Bench
+        ensures { result ≡ ended res self }
     {
-        Bench {
-            mode: Mode {
-                cal_req: self.mode.on,
-                ..self.mode
-            },
-            ranges: self.job.job_save,
-            job: Job {
-                job: 0,
-                job_res: result_number(end),
-                ..self.job
-            },
-            ..self
-        }
-    }
-
-    /// The same where a job runs; else nothing changes.
-    #[tactic(auto, unfolding(crate::specs::Bench::ended_if_any))]
-    pub(crate) fn end_if_any(self, end: Result<(), JobError>) -> Bench
-        ensures { result ≡ ended_if_any (result_number end) self }
-    {
-        if self.job.job == 0 {
-            self
-        } else {
-            self.end_with(end)
-        }
+        self.mode.cal_req = self.mode.on;
+        self.ranges = self.job.job_save;
+        self.job.job = 0;
+        self.job.job_res = res;
+        self
     }
 
     /// Step `step` begins: nothing is counted yet, some ready frames are to be dropped, and the host writes

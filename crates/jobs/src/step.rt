@@ -7,7 +7,7 @@ ghost use Rattle.jobs.specs.Step.{ended_unmarked, zero_done, raw_done, judged, r
 
 use crate::bench::{Bench, Served};
 use state::Corrections;
-use steps::error::JobError;
+use steps::error::{JobError, result_number};
 use steps::place::Kind;
 use steps::verdict::{Means, gain_verdict, zero_mean};
 
@@ -24,7 +24,7 @@ impl Bench {
     pub(crate) fn end_unmarked(self, end: Result<(), JobError>) -> Served
         ensures { result ≡ ended_unmarked (result_number end) self }
     {
-        Served::unmarked(self.end_with(end))
+        Served::unmarked(self.end_with(result_number(end)))
     }
 
     // A step of the zero job is done: its zero is kept with the job; after the last step all thirteen are

@@ -1,13 +1,11 @@
 //! The jobs on a whole meter. Whether a call is refused is module 7's part.
 ghost use Rattle.std.specs.Prelude.{◌≡◌};
-ghost use Rattle.steps.specs.Error.{result_number};
 ghost use Rattle.jobs.specs.Whole.{bench_in, with_bench, job_started, job_turned_away, job_ended, job_polled};
 
 use crate::bench::{Bench, turned_away};
 use codes::Frame;
 use phase::cal_off;
-use state::{Clock, Pw};
-use steps::error::JobError;
+use state::Pw;
 use steps::place::Kind;
 
 /// What a job's start leaves, and the mark to the host: its deadline.
@@ -27,6 +25,7 @@ pub struct Polled {
 
 /// The part of a meter that a job works on.
 // Field by field, here and in `put_into`: the meter has no `Bench` in it, since a C host keeps it in the source's groups.
+// Here and below a meter is changed in place: a new one with the rest of the old (`..before`) is copied once more.
 impl From<Pw> for Bench {
     ghost from_gives = { λ pw bench. bench ≡ bench_in pw };
 
@@ -48,14 +47,13 @@ impl Bench {
     fn put_into(self, before: Pw) -> Pw
         ensures { result ≡ with_bench before self }
     {
-        Pw {
-            mode: self.mode,
-            ranges: self.ranges,
-            cycle: self.cycle,
-            corrections: self.corrections,
-            job: self.job,
-            ..before
-        }
+        let mut after = before;
+        after.mode = self.mode;
+        after.ranges = self.ranges;
+        after.cycle = self.cycle;
+        after.corrections = self.corrections;
+        after.job = self.job;
+        after
     }
 }
 
@@ -65,11 +63,10 @@ pub fn job_start(before: Pw, kind: Kind, now: u64) -> Started
     ensures { result ≡ job_started before kind now }
 {
     let served = Bench::from(before).begin(now, kind);
+    let mut pw = served.bench.put_into(before);
+    pw.phase_cal = cal_off(before.phase_cal);
     Started {
-        pw: Pw {
-            phase_cal: cal_off(before.phase_cal),
-            ..served.bench.put_into(before)
-        },
+        pw,
         mark: served.mark,
     }
 }
@@ -79,18 +76,20 @@ pub fn job_start(before: Pw, kind: Kind, now: u64) -> Started
 pub fn job_turned_away(before: Pw, kind: Kind) -> Pw
     ensures { result ≡ job_turned_away before kind }
 {
-    Pw {
-        job: turned_away(kind, before.job),
-        ..before
-    }
+    let mut after = before;
+    after.job = turned_away(kind, before.job);
+    after
 }
 
-/// The running job ends so; where none runs nothing changes.
-#[tactic(auto, unfolding(crate::specs::Whole::job_ended))]
-pub fn job_end(before: Pw, end: Result<(), JobError>) -> Pw
-    ensures { result ≡ job_ended before (result_number end) }
+/// The running job ends with this result, of any number, as a C host's comparison hands it; where none runs nothing changes.
+#[tactic(auto, unfolding(crate::specs::Whole::job_ended, crate::specs::Whole::with_bench, crate::specs::Whole::bench_in, crate::specs::Bench::ended_if_any))]
+pub fn job_end(before: Pw, res: u8) -> Pw
+    ensures { result ≡ job_ended before res }
 {
-    Bench::from(before).end_if_any(end).put_into(before)
+    if before.job.job == 0 {
+        return before;
+    }
+    Bench::from(before).end_with(res).put_into(before)
 }
 
 /// A frame in a job. (Where none runs, it is taken as a gain job's; module 7 calls it only in a job.)
@@ -99,14 +98,10 @@ pub fn job_poll(before: Pw, frame: Frame) -> Polled
     ensures { result ≡ job_polled before frame.now frame.flags frame.codes }
 {
     let served = Bench::from(before).job_frame(before.calibration, frame);
+    let mut pw = served.bench.put_into(before);
+    pw.clock.t_poll = frame.now;
     Polled {
-        pw: Pw {
-            clock: Clock {
-                t_poll: frame.now,
-                ..before.clock
-            },
-            ..served.bench.put_into(before)
-        },
+        pw,
         mark: served.mark,
         used: served.bench.job.used,
     }

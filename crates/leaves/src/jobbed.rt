@@ -8,8 +8,7 @@ ghost use Rattle.leaves.specs.Host.{host_outcome, started_pw, polled_pw};
 
 use codes::{Codes, Frame};
 use phase::PhaseStep;
-use state::{Job, PhaseCal, Pw, Stamp};
-use steps::error::JobError;
+use state::{PhaseCal, Pw, Stamp};
 use steps::place::Kind;
 
 /// `struct leaf_cal_outcome`
@@ -81,23 +80,11 @@ pub extern "C" fn leaf_job_turned_away(pw: Pw, kind: u8) -> Pw
     jobs::whole::job_turned_away(pw, Kind::from(kind))
 }
 
-/// The comparison hands any number as the result, also one that no job of the library ends with.
 #[unsafe(no_mangle)]
-#[tactic(auto, unfolding(jobs::specs::Whole::job_ended, jobs::specs::Whole::with_bench, jobs::specs::Whole::bench_in, jobs::specs::Bench::ended_if_any, jobs::specs::Bench::ended))]
 pub extern "C" fn leaf_job_end(pw: Pw, res: u8) -> Pw
     ensures { result ≡ job_ended pw res }
 {
-    let after = jobs::whole::job_end(pw, Err(JobError::Abort));
-    if pw.job.job == 0 {
-        return after;
-    }
-    Pw {
-        job: Job {
-            job_res: res,
-            ..after.job
-        },
-        ..after
-    }
+    jobs::whole::job_end(pw, res)
 }
 
 #[unsafe(no_mangle)]

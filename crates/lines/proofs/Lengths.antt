@@ -1,11 +1,12 @@
--- How long a line can be that is of no other spelling, so that of a longer one no more need be kept.
-use Rattle.std.proofs.Common.{◌≡◌, ℕ, suc, ◌+◌, ◌-◌, ◌≤◌, ◌<◌, Bool, true, false, cond, ◌&&◌, List, leb, eqb, length, take, drop, Option, Some, None, sym, refl, ap, ◌∙◌, arith, length-take, length-drop, take_all, length-take-le}
+-- How long a line can be that is of no other spelling, so that of a longer one no more need be kept; and how many bytes a frame brings.
+use Rattle.std.proofs.Common.{◌≡◌, ℕ, suc, ◌+◌, ◌-◌, ◌≤◌, ◌<◌, Bool, true, false, cond, ◌&&◌, List, leb, eqb, length, take, drop, Option, Some, None, sym, refl, ap, ◌∙◌, arith, length-take, length-drop, take_all, length-take-le, replicate, ◌*◌, ◌++◌, [], ◌∷◌, length-append}
 use borrow.Author.Tests.{leb-true, leb-false, eqb-true}
+use lib.ListN.{length-replicate}
 use Rattle.std.specs.Str.{bytes_eq}
-use Rattle.lines.specs.Digits.{within, all_digits, number_of}
-use Rattle.lines.specs.Spelling.{item_of, rest_of, on_word, zero_word, poll_word, is_time, is_flags, is_frame, timed_line, poll_line, form_of, bracketed, line_of}
+use Rattle.lines.specs.Digits.{within, all_digits, number_of, bytes_of}
+use Rattle.lines.specs.Spelling.{item_of, rest_of, on_word, zero_word, poll_word, is_time, is_flags, is_frame, timed_line, padded, poll_line, form_of, bracketed, line_of}
 use Rattle.lines.specs.declared.Line.{Line}
-use Rattle.lines.specs.declared.Line.TheVariants.{On, Zero}
+use Rattle.lines.specs.declared.Line.TheVariants.{On, Zero, Poll}
 use Rattle.lines.proofs.Digits.{both}
 use Rattle.lines.proofs.Items.{space_at, same_is}
 use Rattle.lines.proofs.Pairs.{frame}
@@ -74,3 +75,38 @@ cut n l k = go (leb (length l) n) refl
     go : (b : Bool) → leb (length l) n ≡ b → line_of (take n l) ≡ line_of l
     go true e = ap line_of (take_all n l (leb-true (length l) n e))
     go false e = let h : n < length l = leb-false (length l) n e in long (take n l) (omega (arith, length-take n l)) ∙ sym (long l (omega arith))
+
+-- ---- a frame has 32 bytes at the most, and there is room for just as many
+abbrev pub Few : Option Line → Type 0
+Few (Some (On t)) = Unit {0}
+Few (Some (Zero t)) = Unit {0}
+Few (Some (Poll t f b)) = (b.count ≤ 32) × (length b.bytes ≡ 32)
+Few None = Unit {0}
+
+either : (t : Bool) (x y : Option Line) → (t ≡ true → Few x) → Few y → Few (cond t x y)
+either false x y f k = k
+either true x y f k = f refl
+
+pairs : (h : List ℕ) → length (bytes_of h) * 2 ≤ length h
+unfolding bytes_of
+pairs [] = omega arith
+pairs (b ∷ []) = omega arith
+pairs (a ∷ b ∷ l) = omega (arith, pairs l)
+
+poll_few : (t f h : List ℕ) → Few (poll_line t f h)
+unfolding poll_line padded
+poll_few t f h = either (is_time t && is_flags f && is_frame h) _ None (λ e. few (both (is_time t && is_flags f) (is_frame h) e).1) tt
+  where
+    few : is_frame h ≡ true → (length (bytes_of h) ≤ 32) × (length (bytes_of h ++ replicate (32 - length (bytes_of h)) 0) ≡ 32)
+    few e = (omega (arith, pairs h, (frame h e).longest), length-append (bytes_of h) (replicate (32 - length (bytes_of h)) 0) ∙ omega (arith, pairs h, (frame h e).longest, length-replicate {A = ℕ} (32 - length (bytes_of h)) 0))
+
+form_few : (l : List ℕ) → Few (form_of l)
+unfolding form_of timed_line
+form_few l =
+    either (bytes_eq (item_of l) on_word) _ _ (λ e. either (is_time (rest_of l)) _ None (λ e. tt) tt)
+    (either (bytes_eq (item_of l) zero_word) _ _ (λ e. either (is_time (rest_of l)) _ None (λ e. tt) tt)
+    (either (bytes_eq (item_of l) poll_word) _ None (λ e. poll_few (item_of (rest_of l)) (item_of (rest_of (rest_of l))) (rest_of (rest_of (rest_of l)))) tt))
+
+pub count_fits : (l : List ℕ) → Few (line_of l)
+unfolding line_of
+count_fits l = either (bracketed l) _ None (λ e. form_few (take (length l - 2) (drop 1 l))) tt

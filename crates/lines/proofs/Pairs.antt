@@ -1,6 +1,9 @@
 -- The bytes that pairs of hex digits spell, pair by pair.
 use Rattle.std.proofs.Common.{◌≡◌, ℕ, ◌%◌, ◌≤◌, Bool, true, false, cond, ◌&&◌, eqb, leb, List, [], ◌∷◌, ◌++◌, length, get_or, Option, Some, None, sym, refl, ap, ◌∙◌, arith, append-nil}
 use mathlib.Core.List.{append_assoc}
+use Prim.Native.Nat.{◌-◌}
+use lib.ListN.{drop, replicate}
+use Rattle.std.proofs.lemmas.List.{drop-replicate}
 use borrow.Author.Tests.{leb-true, eqb-true, le-leb, eq-eqb}
 use Rattle.arrayvec.specs.ArrayVec.{ArrayVec}
 use Rattle.std.specs.Char.{is_digit}
@@ -82,3 +85,7 @@ pub read_all : (bytes l : List ℕ) (r : Option (ArrayVec ℕ)) → length l ≡
 unfolding bytes_of
 read_all bytes [] r h k = ap (λ (x : List ℕ). Some (record { items = x })) (sym (append-nil bytes)) ∙ k
 read_all bytes (a ∷ l) r h k = absurd (omega (arith, h))
+
+-- zeros stand behind the bytes that are brought
+pub zeros_behind : (l : List ℕ) → l ++ drop (length l) (replicate 32 0) ≡ l ++ replicate (32 - length l) 0
+zeros_behind l = ap (λ (z : List ℕ). l ++ z) (drop-replicate (length l) 32 0)

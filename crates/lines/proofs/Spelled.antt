@@ -1,10 +1,11 @@
 -- The three forms as document 01 writes them: `(on T)`, `(zero T)` and `(poll T F H)` are read as what they say, whatever T, F and H are.
-use Rattle.std.proofs.Common.{◌≡◌, ℕ, suc, ◌+◌, ◌-◌, ◌≤◌, true, List, [], ◌∷◌, ◌++◌, eqb, length, get_or, take, Some, refl, ap, ◌∙◌, arith, length-append}
+use Rattle.std.proofs.Common.{◌≡◌, ℕ, suc, ◌+◌, ◌-◌, ◌≤◌, true, List, [], ◌∷◌, ◌++◌, replicate, eqb, length, get_or, take, Option, Some, None, refl, ap, ◌∙◌, arith, length-append}
 use borrow.Author.Tests.{le-leb, eq-eqb, ne_eqb, ltb-true}
 use lib.Seq.{take-append_seam, drop-append-add, get_or-append_seam}
 use Rattle.std.specs.Char.{digit_value, is_digit}
 use Rattle.lines.specs.Digits.{within, all_digits, number_of, bytes_of}
-use Rattle.lines.specs.Spelling.{item_of, rest_of, on_word, zero_word, poll_word, is_time, is_flags, is_frame, timed_line, poll_line, form_of, bracketed, line_of}
+use Rattle.lines.specs.Spelling.{item_of, rest_of, on_word, zero_word, poll_word, is_time, is_flags, is_frame, timed_line, padded, poll_line, form_of, bracketed, line_of}
+use Rattle.lines.specs.declared.Line.{Line}
 use Rattle.lines.specs.declared.Line.TheVariants.{On, Zero, Poll}
 use Rattle.lines.proofs.Digits.{both}
 use Rattle.lines.proofs.Items.{space_at}
@@ -77,9 +78,24 @@ unfolding form_of item_of rest_of
 by_word items = refl
 
 pub poll_read : (t f h : List ℕ) → is_time t ≡ true → is_flags f ≡ true → is_frame h ≡ true
-    → line_of (in_brackets (then poll_word (then t (then f h)))) ≡ Some (Poll (number_of 10 t) (number_of 16 f) (record { items = bytes_of h }))
+    → line_of (in_brackets (then poll_word (then t (then f h)))) ≡ Some (Poll (number_of 10 t) (number_of 16 f) (padded (bytes_of h)))
 unfolding poll_line
 poll_read t f h p q r = between_brackets (then poll_word (then t (then f h))) ∙ by_word (then t (then f h)) ∙ items ∙ rw (p, q, r)
   where
     items : poll_line (item_of (then t (then f h))) (item_of (rest_of (then t (then f h)))) (rest_of (rest_of (then t (then f h)))) ≡ poll_line t f h
     items = rw (first_item 10 t (then f h) (omega arith) (time_digits t p), behind_it 10 t (then f h) (omega arith) (time_digits t p), first_item 16 f h (omega arith) (flags_are_digits f q), behind_it 16 f h (omega arith) (flags_are_digits f q))
+
+-- of a frame's 32 bytes the first `count` are those that its digits say
+pub brought : (l : List ℕ) → take (padded l).count (padded l).bytes ≡ l
+unfolding padded
+brought l = take-append_seam l (replicate (32 - length l) 0)
+
+abbrev pub bytes_in : Option Line → List ℕ
+bytes_in (Some (On t)) = []
+bytes_in (Some (Zero t)) = []
+bytes_in (Some (Poll t f b)) = take b.count b.bytes
+bytes_in None = []
+
+pub frame_bytes : (t f h : List ℕ) → is_time t ≡ true → is_flags f ≡ true → is_frame h ≡ true → bytes_in (poll_line t f h) ≡ bytes_of h
+unfolding poll_line
+frame_bytes t f h p q r = rw (p, q, r) (brought (bytes_of h))

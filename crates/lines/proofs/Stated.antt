@@ -1,7 +1,7 @@
 -- What follows from the definitions: document 01's example lines, spellings at the limits. Each of the three forms is read whatever its items are (proofs/Spelled.antt), and nothing else is (proofs/Only.antt); how long a line can be stands in proofs/Lengths.antt.
 use Rattle.std.proofs.Common.{◌≡◌, ℕ, List, [], ◌∷◌, ◌++◌, replicate, Some, None, refl}
 use Rattle.lines.specs.Digits.{bytes_of}
-use Rattle.lines.specs.Spelling.{item_of, rest_of, is_time, is_flags, is_frame, timed_line, poll_line, form_of, bracketed, line_of}
+use Rattle.lines.specs.Spelling.{item_of, rest_of, is_time, is_flags, is_frame, timed_line, padded, poll_line, form_of, bracketed, line_of}
 use Rattle.lines.specs.declared.Line.TheVariants.{On, Zero, Poll}
 
 -- ---- document 01's example
@@ -11,8 +11,8 @@ unfolding line_of bracketed form_of item_of rest_of timed_line is_time
 on_0 = refl
 
 -- (poll 9 00 00)
-pub poll_9 : line_of (40 ∷ 112 ∷ 111 ∷ 108 ∷ 108 ∷ 32 ∷ 57 ∷ 32 ∷ 48 ∷ 48 ∷ 32 ∷ 48 ∷ 48 ∷ 41 ∷ []) ≡ Some (Poll 9 0 (record { items = 0 ∷ [] }))
-unfolding line_of bracketed form_of item_of rest_of poll_line is_time is_flags is_frame bytes_of
+pub poll_9 : line_of (40 ∷ 112 ∷ 111 ∷ 108 ∷ 108 ∷ 32 ∷ 57 ∷ 32 ∷ 48 ∷ 48 ∷ 32 ∷ 48 ∷ 48 ∷ 41 ∷ []) ≡ Some (Poll 9 0 (record { bytes = replicate 32 0; count = 1 }))
+unfolding line_of bracketed form_of item_of rest_of poll_line is_time is_flags is_frame padded bytes_of
 poll_9 = refl
 
 -- (zero 10), (zero 11)
@@ -43,22 +43,22 @@ unfolding line_of bracketed form_of item_of rest_of timed_line is_time
 sixteen = refl
 
 -- (poll 9 aF Fa)
-pub either_case : line_of (40 ∷ 112 ∷ 111 ∷ 108 ∷ 108 ∷ 32 ∷ 57 ∷ 32 ∷ 97 ∷ 70 ∷ 32 ∷ 70 ∷ 97 ∷ 41 ∷ []) ≡ Some (Poll 9 0xaf (record { items = 0xfa ∷ [] }))
-unfolding line_of bracketed form_of item_of rest_of poll_line is_time is_flags is_frame bytes_of
+pub either_case : line_of (40 ∷ 112 ∷ 111 ∷ 108 ∷ 108 ∷ 32 ∷ 57 ∷ 32 ∷ 97 ∷ 70 ∷ 32 ∷ 70 ∷ 97 ∷ 41 ∷ []) ≡ Some (Poll 9 0xaf (record { bytes = 0xfa ∷ replicate 31 0; count = 1 }))
+unfolding line_of bracketed form_of item_of rest_of poll_line is_time is_flags is_frame padded bytes_of
 either_case = refl
 
 -- (poll 9 00 H) of 64, 65 and 66 zeros
 abbrev poll_zeros : ℕ → List ℕ
 poll_zeros n = 40 ∷ 112 ∷ 111 ∷ 108 ∷ 108 ∷ 32 ∷ 57 ∷ 32 ∷ 48 ∷ 48 ∷ 32 ∷ (replicate n 48 ++ (41 ∷ []))
 
-pub sixty_four : line_of (poll_zeros 64) ≡ Some (Poll 9 0 (record { items = replicate 32 0 }))
-unfolding line_of bracketed form_of item_of rest_of poll_line is_time is_flags is_frame bytes_of
+pub sixty_four : line_of (poll_zeros 64) ≡ Some (Poll 9 0 (record { bytes = replicate 32 0; count = 32 }))
+unfolding line_of bracketed form_of item_of rest_of poll_line is_time is_flags is_frame padded bytes_of
 sixty_four = refl
 
 pub sixty_three : line_of (poll_zeros 63) ≡ None
-unfolding line_of bracketed form_of item_of rest_of poll_line is_time is_flags is_frame bytes_of
+unfolding line_of bracketed form_of item_of rest_of poll_line is_time is_flags is_frame padded bytes_of
 sixty_three = refl
 
 pub sixty_six : line_of (poll_zeros 66) ≡ None
-unfolding line_of bracketed form_of item_of rest_of poll_line is_time is_flags is_frame bytes_of
+unfolding line_of bracketed form_of item_of rest_of poll_line is_time is_flags is_frame padded bytes_of
 sixty_six = refl

@@ -1,10 +1,11 @@
 -- A line of `pwline`, by document 01: "`(on T)`, `(zero T)`, `(poll T F H)`: T of 1 to 15 decimal digits in ms, F two hex digits of either case, H 2 to 64 such digits,
 -- even in number, one space between items"; every other line is "a line of another spelling". Lines and items are lists of ASCII bytes.
-use Rattle.std.specs.Prelude.{ℕ, ◌-◌, ◌%◌, Bool, if◌then◌else◌, ◌&&◌, List, [], ◌∷◌, ◌==◌, nat_le, length, take, drop, slice_index, Option, Some, None}
+use Rattle.std.specs.Prelude.{ℕ, ◌-◌, ◌%◌, Bool, if◌then◌else◌, ◌&&◌, List, [], ◌∷◌, ◌++◌, replicate, ◌==◌, nat_le, length, take, drop, slice_index, Option, Some, None}
 use Rattle.std.specs.List.{before_first, after_first}
 use Rattle.std.specs.Str.{bytes_eq}
 use Rattle.arrayvec.specs.ArrayVec.{ArrayVec}
 use Rattle.lines.specs.Digits.{within, all_digits, number_of, bytes_of}
+use Rattle.lines.specs.declared.brought.FrameBytes.{FrameBytes}
 use Rattle.lines.specs.declared.Line.{Line}
 use Rattle.lines.specs.declared.Line.TheVariants.{On, Zero, Poll}
 
@@ -52,6 +53,10 @@ flags_in f = if is_flags f then Some (number_of 16 f) else None
 abbrev pub frame_in : List ℕ → Option (ArrayVec ℕ)
 frame_in h = if is_frame h then Some (record { items = bytes_of h }) else None
 
+-- 32 bytes that begin with these, and how many these are
+unfoldable pub padded : List ℕ → FrameBytes
+padded l = record { bytes = l ++ replicate (32 - length l) 0; count = length l }
+
 -- ---- lines; "a line of another spelling" is none
 -- an order with a time alone
 unfoldable pub timed_line : (ℕ → Line) → List ℕ → Option Line
@@ -59,7 +64,7 @@ timed_line order t = if is_time t then Some (order (number_of 10 t)) else None
 
 -- a frame: its time, its flags, and as many bytes as it brings
 unfoldable pub poll_line : List ℕ → List ℕ → List ℕ → Option Line
-poll_line t f h = if is_time t && is_flags f && is_frame h then Some (Poll (number_of 10 t) (number_of 16 f) (record { items = bytes_of h })) else None
+poll_line t f h = if is_time t && is_flags f && is_frame h then Some (Poll (number_of 10 t) (number_of 16 f) (padded (bytes_of h))) else None
 
 -- what stands between the brackets: a word and its items, one space between them
 unfoldable pub form_of : List ℕ → Option Line

@@ -6,17 +6,20 @@ ghost use Rattle.std.specs.List.{position};
 ghost use Rattle.lines.specs.Digits.{digit_in, number_in, byte_in};
 ghost use Rattle.lines.specs.Spelling.{is_space, item_of, rest_of, time_in, flags_in, frame_in, poll_line, form_of, line_of};
 
+mod brought;
+
 use arrayvec::ArrayVec;
+pub use brought::FrameBytes;
 
 /// An order or a frame, as a line spells it: three forms; a line of none of them is a `None`. Times are in ms.
-#[derive(Debug, Drop)]
+#[derive(Clone, Copy, Debug)]
 pub enum Line {
     On(u64),
     Zero(u64),
     Poll {
         time: u64,
         flags: u8,
-        bytes: ArrayVec<u8, 32>,
+        bytes: FrameBytes,
     },
 }
 
@@ -116,7 +119,7 @@ fn poll(items: &[u8]) -> Option<Line>
     Some(Line::Poll {
         time: time(t)?,
         flags: flags(f)?,
-        bytes: frame(h)?,
+        bytes: FrameBytes::padded(&frame(h)?),
     })
 }
 

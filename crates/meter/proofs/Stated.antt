@@ -1,5 +1,5 @@
 -- Document 01's sentences on calls, of every meter: what each call answers and leaves, by the definitions.
-use Rattle.std.specs.Prelude.{Ok, Err, Result, IfOk, Option, None, Some}
+use Rattle.std.specs.Prelude.{Ok, Err, Result, is_err, IfOk, Option, None, Some}
 use mathlib.Core.Path.{◌≡◌, refl, sym, ap, ◌∙◌, subst}
 use mathlib.Core.Bool.{Bool, true, false, not, ◌&&◌, cond, true≢false}
 use mathlib.Core.Logic.{inl}
@@ -285,3 +285,12 @@ made_exactly d words valid = rw (makes d words valid) (go (six_in_bounds d) (eqb
     go true true = refl
     go true false = refl
     go false enough = refl
+
+-- 6: "whole frame undone": where the accounting of a frame is refused, the meter after it is the one before
+pub full_undone : (before after : Pw) (v : PowerVals) (t : ℕ) (mark : Option ℕ) → is_err (read before after v t mark).answer ≡ true → (read before after v t mark).pw ≡ before
+unfolding read refused_with
+full_undone before after v t mark = go (account after v.load t)
+  where
+    go : (a : Result Pw Refusal) → is_err (read_to before mark a).answer ≡ true → (read_to before mark a).pw ≡ before
+    go (Ok n) e = absurd (true≢false (sym e))
+    go (Err r) e = refl

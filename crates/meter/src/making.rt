@@ -18,7 +18,7 @@ pub fn plain_description() -> Description
 pub fn plain_meter() -> Pw
     ensures { result ≡ plain_meter }
 {
-    Pw::new(Description::PLAIN, Calibration::NONE)
+    Pw::new(plain_description(), Calibration::NONE)
 }
 
 /// The meter; or refusal 7 or 8, and none. The description is tested before the words, which are lent and only read.

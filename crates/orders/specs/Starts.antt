@@ -3,6 +3,7 @@ use Rattle.std.specs.Prelude.{Bool, not, ◌||◌, if◌then◌else◌, ℕ, eqb
 use Rattle.refusals.specs.declared.Refusal.{Refusal}
 use Rattle.refusals.specs.declared.Refusal.TheVariants as refusal
 use Rattle.figures.specs.Tally.{fresh_tally}
+use Rattle.state.specs.declared.Mode.{Mode}
 use Rattle.state.specs.declared.Pw.{Pw}
 use Rattle.state.specs.declared.Settings.{Settings}
 use Rattle.state.specs.Fresh.{no_time}
@@ -17,14 +18,14 @@ use Rattle.orders.specs.With.{with_run, with_t_last, with_tally, with_clock, wit
 abbrev pub started_step : Started → Step
 started_step s = marked s.pw s.mark
 
--- how a job's start goes: carried out, or the first refusal that holds
-unfoldable pub start_tried : Pw → ℕ → Kind → Result Step Refusal
-start_tried m t k =
+-- whether a job may start: else the first refusal that holds. `job` is the running one's number, 0 where none runs
+unfoldable pub start_tried : Mode → ℕ → ℕ → Result (Unit {0}) Refusal
+start_tried mode job t =
     if late t then Err refusal.Late
-    else if not m.mode.on then Err refusal.Off
-    else if not (eqb m.job.job 0) then Err refusal.Busy
-    else if m.mode.alt then Err refusal.Method
-    else Ok (started_step (job_started m k t))
+    else if not mode.on then Err refusal.Off
+    else if not (eqb job 0) then Err refusal.Busy
+    else if mode.alt then Err refusal.Method
+    else Ok tt
 
 -- 1: "job start .. while not on"; 2: "job start .. while a job runs"; 3: "job start in alternating method", and that one "sets `job_last` and `JR_METHOD`, nothing else"
 unfoldable pub start_job : Pw → ℕ → Kind → Step

@@ -9,7 +9,7 @@ use jobs::whole::job_end;
 use ranging::apply::{Keep, apply};
 use refusals::Refusal;
 use state::Pw;
-use steps::error::JobError;
+use tables::constants::JR_ABORT;
 
 /// The source's `pw_apply`: the host writes the row at once, and goes on at the deadline.
 #[tactic(auto, unfolding(crate::specs::Apply::applied))]
@@ -46,7 +46,7 @@ pub(crate) fn applied_if_on(before: Pw, time: u64) -> Step
 fn aborted(before: Pw) -> Pw
     ensures { result ≡ aborted before }
 {
-    job_end(before, Err(JobError::Abort))
+    job_end(before, JR_ABORT)
 }
 
 /// An order that first ends a running job, and then acts on the meter that it leaves; late, it does neither.
@@ -54,8 +54,8 @@ pub(crate) fn ending_job<F: FnOnce(Pw) -> Step>(before: Pw, time: u64, act: F) -
     requires { F.pre act (aborted before) }
     ensures { MatchBool (late time) (result ≡ refused_with Refusal.Late before) (F.post act (aborted before) result) }
 {
-    match in_time(time) {
-        Ok(()) => act(aborted(before)),
-        Err(refusal) => refused_with(refusal, before),
+    if let Err(refusal) = in_time(time) {
+        return refused_with(refusal, before);
     }
+    act(aborted(before))
 }

@@ -9,26 +9,25 @@ use figures::tally::Tally;
 use jobs::whole::{job_start, job_turned_away};
 use phase::cal_start;
 use refusals::Refusal;
-use state::{Pw, Settings, Stamp};
+use state::{Mode, Pw, Settings, Stamp};
 use steps::place::Kind;
 
-// A job's start, or its refusal.
+// Whether a job may start; or its refusal. `job` is the running one's number, 0 where none runs.
 #[tactic(auto, unfolding(crate::specs::Starts::start_tried))]
-fn try_job(before: Pw, time: u64, kind: Kind) -> Result<Step, Refusal>
-    ensures { result ≡ start_tried before time kind }
+fn try_start(mode: Mode, job: u8, time: u64) -> Result<(), Refusal>
+    ensures { result ≡ start_tried mode job time }
 {
     in_time(time)?;
-    if !before.mode.on {
+    if !mode.on {
         return Err(Refusal::Off);
     }
-    if before.job.job != 0 {
+    if job != 0 {
         return Err(Refusal::Busy);
     }
-    if before.mode.alt {
+    if mode.alt {
         return Err(Refusal::Method);
     }
-    let started = job_start(before, kind, time);
-    Ok(marked(started.pw, started.mark))
+    Ok(())
 }
 
 // Refused in the alternating method, the meter notes that; otherwise refused it is as it was.
@@ -36,9 +35,13 @@ fn try_job(before: Pw, time: u64, kind: Kind) -> Result<Step, Refusal>
 fn start_job(before: Pw, time: u64, kind: Kind) -> Step
     ensures { result ≡ start_job before time kind }
 {
-    match try_job(before, time, kind) {
+    match try_start(before.mode, before.job.job, time) {
+        Ok(()) => {
+            let started = job_start(before, kind, time);
+            marked(started.pw, started.mark)
+        }
         Err(Refusal::Method) => refused_with(Refusal::Method, job_turned_away(before, kind)),
-        outcome => told(outcome, before),
+        Err(refusal) => refused_with(refusal, before),
     }
 }
 

@@ -1,5 +1,5 @@
 -- What a line of `pwline` does to its meter, and what is written for it.
-use Rattle.std.specs.Prelude.{ℕ, ◌+◌, ◌%◌, ◌^◌, List, Option, Some, None}
+use Rattle.std.specs.Prelude.{ℕ, ◌+◌, ◌%◌, ◌^◌, List, take, Option, Some, None}
 use Rattle.refusals.specs.Number.{told_number}
 use Rattle.state.specs.declared.Pw.{Pw}
 use Rattle.steps.specs.declared.place.Kind.TheVariants as job
@@ -24,7 +24,7 @@ not_told m = record { pw = m; refusal = None }
 abbrev pub obeyed_by : Pw → Option Line → Reply
 obeyed_by m (Some (On time)) = told_by (on m time)
 obeyed_by m (Some (Zero time)) = told_by (start_job m time job.Zero)
-obeyed_by m (Some (Poll time flags bytes)) = told_by (poll m time flags bytes.items)
+obeyed_by m (Some (Poll time flags bytes)) = told_by (poll m time flags (take bytes.count bytes.bytes))
 obeyed_by m None = not_told m
 
 unfoldable pub obeyed : Pw → List ℕ → Reply

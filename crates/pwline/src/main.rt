@@ -2,7 +2,7 @@
 //! line.
 //!
 //! Proved: what each byte of the input does to the session, and the answer that is due for it
-//! (`Session::feed`, `Session::finish`); an answer's text (`Answer`'s `Display`); that a part of the input
+//! (`Session::feed`, `Session::finish`); an answer's text (`Answer::text`); that a part of the input
 //! leaves the session that all its bytes do, in their order (`feed_all`); that the texts for a whole
 //! input, one behind the other, are document 01's answers to its lines (`whole` in proofs/Stated.antt);
 //! and that the program is safe and ends. No contract can say what is read and written: that the reads
@@ -23,7 +23,7 @@ use text::Answer;
 // The answer that is due, if one is. A write that fails is passed over.
 fn write(rt: &impl Print, answer: Option<Answer>) {
     if let Some(answer) = answer {
-        let _ = print!(rt; "{answer}");
+        let _ = rt.write_all(&answer.text());
     }
 }
 

@@ -29,7 +29,7 @@ pub struct Reply {
 }
 
 /// The meter, the number of the line that is being read, and the first bytes of it.
-#[derive(Drop)]
+#[derive(Clone, Drop)]
 pub struct Session {
     pub pw: Pw,
     pub number: u64,
@@ -55,7 +55,9 @@ fn obey(pw: Pw, line: &[u8]) -> Reply
     match parse(line) {
         Some(Line::On(time)) => told_by(on(pw, time)),
         Some(Line::Zero(time)) => told_by(zero_job(pw, time)),
-        Some(Line::Poll { time, flags, bytes }) => told_by(poll(pw, time, flags, &bytes)),
+        Some(Line::Poll { time, flags, bytes }) => {
+            told_by(poll(pw, time, flags, bytes.as_slice()))
+        }
         None => Reply { pw, refusal: None },
     }
 }

@@ -1,3 +1,4 @@
+pub mod Apart
 pub mod Zeros
 pub mod Nearest
 pub mod Stated

@@ -26,6 +26,17 @@ impl Calibration {
     };
 }
 
+/// No valid word: what stands for the words where they are refused.
+impl Default for Calibration {
+    ghost use Rattle.tables.specs.Calibration.{no_calibration};
+
+    ghost is_default = { λ calibration. calibration ≡ no_calibration };
+
+    fn default() -> Calibration {
+        Calibration::NONE
+    }
+}
+
 /// The lent words, which are only read, with their mark. Refusal 8 where they are not 73.
 #[tactic(auto, unfolding(crate::specs::Calibration::calibration_of))]
 pub fn calibration_of(words: &[u32], valid: bool) -> Result<Calibration, Refusal>

@@ -31,14 +31,21 @@ pub(crate) fn us(iu: u8) -> f32
     }
 }
 
+/// The description's `MV_DIV` of a current range, by its gain index.
+#[tactic(auto, using(tables::proofs::Held::ir_most), unfolding(crate::specs::Scales::mv_div))]
+pub fn mv_div(description: &Description, ik: u8) -> f32
+    ensures { result ≡ mv_div description.now ik }
+{
+    let u = iu_ir(ik);
+    description.mv_div[usize::from(u.ir)]
+}
+
 impl Instrument {
-    /// The description's `MV_DIV` of a current range, by its gain index.
-    #[tactic(auto, using(tables::proofs::Held::ir_most), unfolding(crate::specs::Scales::mv_div))]
+    /// The same of the instrument's description.
     pub fn mv_div(&self, ik: u8) -> f32
         ensures { result ≡ mv_div self.now.description ik }
     {
-        let u = iu_ir(ik);
-        self.description.mv_div[usize::from(u.ir)]
+        mv_div(&self.description, ik)
     }
 
     // Apart from `mv_div`: another table, of another length, by another index.

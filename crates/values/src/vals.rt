@@ -175,7 +175,11 @@ fn state_only(pw: Pw) -> PowerVals
 pub fn pw_state(pw: Pw) -> PowerVals
     ensures { result ≡ pw_state pw }
 {
-    pw_vals(pw).unwrap_or_else(|| state_only(pw))
+    // (No `unwrap_or_else`: its closure would hold the meter, which is copied into it.)
+    match pw_vals(pw) {
+        Some(vals) => vals,
+        None => state_only(pw),
+    }
 }
 
 /// Whether energy is being counted with a current above I_FLOOR.

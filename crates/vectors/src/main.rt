@@ -6,14 +6,12 @@ use codes::Codes;
 use figures::acc::Acc;
 use figures::tally::Tally;
 use formats::format::Format;
-use formats::units::Unit;
 use orders::answer::Step;
 use orders::switches::on;
 use paths::measuring::Setup;
 use state::Pw;
 use std::io;
 use steps::place::Place;
-use tables::constants::{R34_XX, R34_XY, R34_YY};
 use tables::description::Description;
 use tables::ranges::{IuIr, iu_ir};
 use tables::window::cmp_window;
@@ -274,86 +272,82 @@ fn takes_rms(stat: u8, rms: i64) -> bool {
 }
 
 // Rows 91 to 94: document 01, XY RMS 2^36 is taken and 2^36 + 1 turned down, and so below zero. Rows 95
-// to 98: where the root, as decided, of XX and YY exceeds 262,144.
+// to 98: where the root, as decided, of XX and YY exceeds 262,144. R34 of XY is 88h, of XX 80h, of YY 8Ch.
 fn limit_rows() -> [Row; 8] {
     [
-        (91, takes_rms(R34_XY, 68719476736)),
-        (92, !takes_rms(R34_XY, 68719476737)),
-        (93, takes_rms(R34_XY, -68719476736)),
-        (94, !takes_rms(R34_XY, -68719476737)),
-        (95, takes_rms(R34_XX, 68719489023)),
-        (96, !takes_rms(R34_XX, 68719489024)),
-        (97, takes_rms(R34_YY, 68719489023)),
-        (98, !takes_rms(R34_YY, 68719489024)),
+        (91, takes_rms(0x88, 68719476736)),
+        (92, !takes_rms(0x88, 68719476737)),
+        (93, takes_rms(0x88, -68719476736)),
+        (94, !takes_rms(0x88, -68719476737)),
+        (95, takes_rms(0x80, 68719489023)),
+        (96, !takes_rms(0x80, 68719489024)),
+        (97, takes_rms(0x8C, 68719489023)),
+        (98, !takes_rms(0x8C, 68719489024)),
     ]
 }
 
-// Whether a format has this number by its bits, these decimals and this unit.
-fn is_format(f: Format, bits: u32, decimals: u8, unit: Unit) -> bool {
-    f.decimals == decimals && f.unit == unit && has_bits(f.number, bits)
+// Whether a format has this number by its bits, these decimals, and the unit of this number.
+fn is_format(f: Format, bits: u32, decimals: u8, unit: u8) -> bool {
+    f.decimals == decimals && u8::from(f.unit) == unit && has_bits(f.number, bits)
 }
 
 // Rows 99 and 100: document 01, `energy_format` 0.5 Wh and 0.5 VAh. Row 101: 100,000 VAh, where 1e-3 is
-// not exact. Row 102: 1000 Wh is 1 kWh.
+// not exact. Row 102: 1000 Wh is 1 kWh. In units 11 is mWh, 12 kWh, 13 VAh and 14 kVAh.
 fn format_rows() -> [Row; 4] {
     let half = formats::format::energy_format(0.5, false);
     let apparent = formats::format::energy_format(0.5, true);
     let large = formats::format::energy_format(100_000.0, true);
     let kilo = formats::format::energy_format(1000.0, false);
     [
-        (99, is_format(half, 0x43FA_0000, 2, Unit::MilliwattHour)),
-        (
-            100,
-            is_format(apparent, 0x3F00_0000, 4, Unit::VoltAmpereHour),
-        ),
-        (
-            101,
-            is_format(large, 0x42C8_0001, 2, Unit::KilovoltAmpereHour),
-        ),
-        (102, is_format(kilo, 0x3F80_0000, 4, Unit::KilowattHour)),
+        (99, is_format(half, 0x43FA_0000, 2, 11)),
+        (100, is_format(apparent, 0x3F00_0000, 4, 13)),
+        (101, is_format(large, 0x42C8_0001, 2, 14)),
+        (102, is_format(kilo, 0x3F80_0000, 4, 12)),
     ]
 }
 
-// Whether the power has these decimals and this unit in a pair of ranges.
-fn shows_power(vr: u8, ik: u8, decimals: u8, unit: Unit) -> bool {
+// Whether the power has these decimals and the unit of this number in a pair of ranges.
+fn shows_power(vr: u8, ik: u8, decimals: u8, unit: u8) -> bool {
     let fs = tables::lookups::v_lim(vr) * tables::lookups::i_lim(ik);
     let f = formats::format::p_format(fs, 1.0, true);
-    f.decimals == decimals && f.unit == unit
+    f.decimals == decimals && u8::from(f.unit) == unit
 }
 
-// Rows 103 to 114: the published `p_format` of 6 V and 60 V with each current range.
+// Rows 103 to 114: the published `p_format` of 6 V and 60 V with each current range. In units 4 is W and 5
+// is mW.
 fn low_power_rows() -> [Row; 12] {
     [
-        (103, shows_power(0, 0, 4, Unit::Milliwatt)),
-        (104, shows_power(0, 1, 3, Unit::Milliwatt)),
-        (105, shows_power(0, 2, 2, Unit::Milliwatt)),
-        (106, shows_power(0, 3, 4, Unit::Watt)),
-        (107, shows_power(0, 4, 3, Unit::Watt)),
-        (108, shows_power(0, 5, 3, Unit::Watt)),
-        (109, shows_power(1, 0, 3, Unit::Milliwatt)),
-        (110, shows_power(1, 1, 2, Unit::Milliwatt)),
-        (111, shows_power(1, 2, 4, Unit::Watt)),
-        (112, shows_power(1, 3, 3, Unit::Watt)),
-        (113, shows_power(1, 4, 2, Unit::Watt)),
-        (114, shows_power(1, 5, 2, Unit::Watt)),
+        (103, shows_power(0, 0, 4, 5)),
+        (104, shows_power(0, 1, 3, 5)),
+        (105, shows_power(0, 2, 2, 5)),
+        (106, shows_power(0, 3, 4, 4)),
+        (107, shows_power(0, 4, 3, 4)),
+        (108, shows_power(0, 5, 3, 4)),
+        (109, shows_power(1, 0, 3, 5)),
+        (110, shows_power(1, 1, 2, 5)),
+        (111, shows_power(1, 2, 4, 4)),
+        (112, shows_power(1, 3, 3, 4)),
+        (113, shows_power(1, 4, 2, 4)),
+        (114, shows_power(1, 5, 2, 4)),
     ]
 }
 
-// Rows 115 to 126: the published `p_format` of 600 V and 1000 V with each current range.
+// Rows 115 to 126: the published `p_format` of 600 V and 1000 V with each current range. In units 4 is W, 5 mW
+// and 6 kW.
 fn high_power_rows() -> [Row; 12] {
     [
-        (115, shows_power(2, 0, 2, Unit::Milliwatt)),
-        (116, shows_power(2, 1, 4, Unit::Watt)),
-        (117, shows_power(2, 2, 3, Unit::Watt)),
-        (118, shows_power(2, 3, 2, Unit::Watt)),
-        (119, shows_power(2, 4, 1, Unit::Watt)),
-        (120, shows_power(2, 5, 1, Unit::Watt)),
-        (121, shows_power(3, 0, 2, Unit::Milliwatt)),
-        (122, shows_power(3, 1, 4, Unit::Watt)),
-        (123, shows_power(3, 2, 3, Unit::Watt)),
-        (124, shows_power(3, 3, 2, Unit::Watt)),
-        (125, shows_power(3, 4, 1, Unit::Watt)),
-        (126, shows_power(3, 5, 3, Unit::Kilowatt)),
+        (115, shows_power(2, 0, 2, 5)),
+        (116, shows_power(2, 1, 4, 4)),
+        (117, shows_power(2, 2, 3, 4)),
+        (118, shows_power(2, 3, 2, 4)),
+        (119, shows_power(2, 4, 1, 4)),
+        (120, shows_power(2, 5, 1, 4)),
+        (121, shows_power(3, 0, 2, 5)),
+        (122, shows_power(3, 1, 4, 4)),
+        (123, shows_power(3, 2, 3, 4)),
+        (124, shows_power(3, 3, 2, 4)),
+        (125, shows_power(3, 4, 1, 4)),
+        (126, shows_power(3, 5, 3, 6)),
     ]
 }
 
